@@ -1,0 +1,16 @@
+-- Facts about lists that the kit's library lacks.
+use mathlib.Core.Path.{_≡_, refl, _∙_, sym, ap}
+use mathlib.Core.List.{List, [], _++_, append-nil, append-assoc}
+use Prim.Native.Nat.{ℕ, _+_, _-_, _≤_}
+use native.Mathlib.Nat.{add-sub-cancel-left}
+use native.Mathlib.Omega.{arith}
+use lib.ListN.{length, take, drop, length-take, length-drop, drop-of-length-le}
+use lib.Seq.{take-length, drop-drop}
+
+-- A part as long as what is copied to its front becomes that.
+pub copied : {A : Type 0} (new old : List A) → length old ≡ length new → take (length new) new ++ drop (length new) old ≡ new
+copied new old same = rw (take-length new, drop-of-length-le old {i = length new} (omega arith)) (append-nil new)
+
+-- A list whose part from `at` on is replaced by one as long.
+pub replaced : {A : Type 0} (at size : ℕ) (whole new : List A) → take at whole ++ (new ++ drop (at + size - at) (drop at whole)) ≡ take at whole ++ new ++ drop (at + size) whole
+replaced at size whole new = rw (add-sub-cancel-left at size, drop-drop size at whole, append-assoc)

@@ -1,0 +1,87 @@
+use borrow.Author.Needs.{needs}
+-- The bytes are taken from the highest down: what has been taken is the field that starts at `at + left`.
+use Prim.Native.Nat.{ℕ, suc, _≤_, _<_, _+_, _*_, _-_, _^_}
+use native.Mathlib.Omega.{arith}
+use native.Mathlib.Nat.{le-trans}
+use mathlib.Core.Path.{_≡_, subst}
+use lib.ListN.{length, getD}
+use lib.Pow.{pow-mono}
+use Rattle.records.specs.Record.{little, fieldAt}
+use Rattle.records.proofs.Little.{shift-in, fits-64, taken}
+use Rattle.records.proofs.get.Statement.{statement}
+use Rattle.records.proofs.get.Tie as tie
+use Rattle.records.proofs.get.Reads as reads
+use Rattle.records.proofs.get.Lts as lts
+
+abbrev Inv-loop : tie.InvT-loop
+Inv-loop bytes at width value₀ left₀ value left = (left ≤ width) × (value ≡ fieldAt bytes (at + left) (width - left)) × (value < 2 ^ (8 * (width - left)))
+
+abbrev μ-loop : tie.MeasureT-loop
+μ-loop bytes at width value₀ left₀ value left = left
+
+loop-holds : tie.Need-loop-holds Inv-loop μ-loop
+unfolding little
+loop-holds c =
+    let none : c .args .width - c .args .width ≡ 0 = omega arith in
+    (omega arith, rw none, rw none (omega arith))
+
+sub-left : tie.Need-sub-left Inv-loop μ-loop
+sub-left c = omega arith
+
+-- the number with one byte more is still one of at most eight bytes
+grows : (c : tie.After-shared-slice-known Inv-loop μ-loop) → c .before .before .loop .value * 256 + getD (c .before .before .before .args .part .now) (c .before .before .before .args .at + (c .before .before .loop .left - 1)) 0 < 2 ^ (8 * suc (c .before .before .before .args .width - c .before .before .loop .left))
+grows c = shift-in _ (c .before .before .loop .inv .2) (c .shared-slice-known .given (c .before .before .before .args .at + (c .before .before .loop .left - 1)) .fits)
+
+mul-value : tie.Need-mul-value Inv-loop μ-loop
+mul-value c = omega (arith, fits-64 (suc (c .before .before .args .width - c .before .loop .left)) (omega arith) (shift-in _ {byte = 0} (c .before .loop .inv .2) (omega arith)))
+
+add-value : tie.Need-add-value Inv-loop μ-loop
+add-value c = omega (arith, c .before .before .good)
+
+shared-slice-read-value : tie.Need-shared-slice-read-value Inv-loop μ-loop
+shared-slice-read-value c = omega arith
+
+cast-value : tie.Need-cast-value Inv-loop μ-loop
+cast-value c = omega (arith, c .shared-slice-known .given (c .before .before .before .args .at + (c .before .before .loop .left - 1)))
+
+add-value-2 : tie.Need-add-value-2 Inv-loop μ-loop
+add-value-2 c = record { fits = fits-64 (suc (c .before .before .before .args .width - c .before .before .loop .left)) (omega arith) (grows c) }
+
+loop-less : tie.Need-loop-less Inv-loop μ-loop
+loop-less c = omega arith
+
+loop-again : tie.Need-loop-again Inv-loop μ-loop
+loop-again c =
+    let a = c .before .before .before .args in
+    let left = c .before .before .loop .left in
+    let more : a .width - (left - 1) ≡ suc (a .width - left) = omega arith in (
+      omega arith,
+      taken (a .part .now) (a .at) (a .width) left (c .before .before .loop .value) (omega arith) (omega arith) (omega arith) (c .before .before .loop .inv .1),
+      rw more (grows c),
+    )
+
+returns : tie.Need-returns Inv-loop μ-loop
+returns c =
+    let a = c .before .before .args in
+    let value = c .before .loop .value in
+    let inv = c .before .loop .inv in
+    let start : a .at + c .before .loop .left ≡ a .at = omega arith in
+    let whole : a .width - c .before .loop .left ≡ a .width = omega arith in
+    (rw (start, whole) at (inv .1), rw whole at (inv .2))
+
+pub get-spec : {M : Type 1} → statement M
+get-spec =
+    tie.close
+    (tie.spec
+    Inv-loop
+    μ-loop
+    loop-holds
+    sub-left
+    mul-value
+    add-value
+    shared-slice-read-value
+    cast-value
+    add-value-2
+    loop-less
+    loop-again
+    returns)
