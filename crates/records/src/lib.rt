@@ -1,5 +1,7 @@
 // The 32-byte record in which events and messages come: its fields, read and written at a place of lent bytes, and
 // how a stream of records is cut into events.
+pub mod stream;
+
 ghost use mathlib.Core.Path.{_≡_};
 ghost use Prim.Native.Nat.{_+_, _*_, _≤_, _<_, _^_};
 ghost use mathlib.Core.List.{_++_};

@@ -1,0 +1,62 @@
+-- Laws of what is left of a stream from a place on.
+use Prim.Native.Nat.{ℕ, zero, suc, _+_, _*_, _-_, _≤_, _<_}
+use mathlib.Core.Path.{_≡_, refl, sym, _∙_, ap}
+use mathlib.Core.Bool.{Bool, true, false, cond, and-eq-true-iff}
+use mathlib.Core.List.{List}
+use mathlib.Core.Logic.{_⊎_, inl, inr}
+use borrow.Author.Tests.{leb-true, lt-leb}
+use native.Mathlib.Omega.{arith}
+use native.Mathlib.Nat.{add-zero}
+use lib.Dec.{leb}
+use lib.ListN.{length, drop, getD, length-drop}
+use lib.Seq.{drop-drop, getD-drop}
+use Rattle.laws.proofs.Tests.{same-leb}
+use Rattle.records.specs.Record.{roomAt, readAt}
+use Rattle.records.specs.declared.Record.{Record}
+use Rattle.records.specs.declared.Read.the-variants.{Whole, Nothing}
+use Rattle.records.specs.Stream.{bearerFirst, bearersIn, pieceOf, pieceAt}
+use Rattle.records.specs.declared.stream.Piece.{Piece}
+use Rattle.records.specs.declared.stream.Piece.the-variants.{Short}
+
+-- A record stands at the front of the rest where there is room for one at the place.
+pub room-rest : (bytes : List ℕ) (at : ℕ) → leb 32 (length (drop at bytes)) ≡ roomAt bytes at
+room-rest bytes at = rw length-drop (same-leb 32 (length bytes - at) (at + 32) (length bytes) (λ h. omega arith) (λ h. omega arith))
+
+-- The first byte of the rest is the one at the place.
+pub first-rest : (bytes : List ℕ) (at : ℕ) → getD (drop at bytes) 0 0 ≡ getD bytes at 0
+first-rest bytes at = rw (getD-drop, add-zero)
+
+-- Where a bearer stands there is room for a record.
+pub bearer-room : (bytes : List ℕ) (at : ℕ) → bearerFirst (drop at bytes) ≡ true → at + 32 ≤ length bytes
+bearer-room bytes at here = leb-true (at + 32) (length bytes) (sym (room-rest bytes at) ∙ and-eq-true-iff _ _ .0 here .0)
+
+-- Passing one bearer leaves one fewer to pass, from the next place on.
+pub pass : (bytes : List ℕ) (at left : ℕ) → 0 < left → bearerFirst (drop at bytes) ≡ true → at + 32 + 32 * bearersIn (left - 1) (drop (at + 32) bytes) ≡ at + 32 * bearersIn left (drop at bytes)
+unfolding bearersIn
+pass bytes at left some here =
+    let more : left ≡ suc (left - 1) = omega arith in
+    rw (ap (λ (n : ℕ). at + 32 * bearersIn n (drop at bytes)) more, here, drop-drop 32 at bytes) (omega arith)
+
+-- Where no bearer stands, or none may be taken, there is nothing to pass.
+pub stop : (rest : List ℕ) (left : ℕ) → (left ≡ 0) ⊎ (bearerFirst rest ≡ false) → bearersIn left rest ≡ 0
+unfolding bearersIn
+stop rest zero none = refl
+stop rest (suc left) (inl none) = absurd (omega arith)
+stop rest (suc left) (inr none) = rw none
+
+-- What was read says which way the test of the room went.
+was-whole : (room : Bool) (there r : Record) (F : Record → Piece) (short : Piece) → cond room (Whole there) Nothing ≡ Whole r → cond room (F there) short ≡ F r
+was-whole true there r F short e = ap F (cc)
+was-whole false there r F short e = let never : _≡_ {A = ℕ} 0 1 = cc in absurd (omega arith)
+
+was-short : (room : Bool) (there : Record) (whole short : Piece) → cond room (Whole there) Nothing ≡ Nothing → cond room whole short ≡ short
+was-short true there whole short e = let never : _≡_ {A = ℕ} 0 1 = cc in absurd (omega arith)
+was-short false there whole short e = refl
+
+-- Where a record was read, the event is that record's.
+pub piece-whole : (bytes : List ℕ) (at : ℕ) (r : Record) → at < length bytes → readAt bytes at ≡ Whole r → pieceAt bytes at ≡ pieceOf r bytes (at + 32)
+piece-whole bytes at r some e = rw (lt-leb (length bytes) at some) (was-whole (roomAt bytes at) _ r (λ there. pieceOf there bytes (at + 32)) _ e)
+
+-- Where bytes are left but no record was read, the event is what is left.
+pub piece-short : (bytes : List ℕ) (at : ℕ) → at < length bytes → readAt bytes at ≡ Nothing → pieceAt bytes at ≡ Short (length bytes)
+piece-short bytes at some e = rw (lt-leb (length bytes) at some) (was-short (roomAt bytes at) _ _ _ e)

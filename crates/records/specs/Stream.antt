@@ -1,0 +1,34 @@
+-- How a stream of records is cut into events.
+use Prim.Native.Nat.{ℕ, zero, suc, _+_, _*_, _-_}
+use mathlib.Core.Bool.{Bool, cond, _&&_}
+use mathlib.Core.List.{List, [], _∷_}
+use lib.Dec.{leb, eqb}
+use lib.ListN.{length, take, drop, getD}
+use Rattle.records.specs.Record.{recordOf, roomAt}
+use Rattle.records.specs.declared.Record.{Record}
+use Rattle.records.specs.declared.stream.Piece.{Piece}
+use Rattle.records.specs.declared.stream.Piece.the-variants.{Nothing, Short, Single, Request}
+
+-- "A request (kind 1) takes the next records"; "If its count is not 1 to 256 it takes none"
+abbrev pub takesBearers : Record → Bool
+takesBearers r = eqb (r .kind) 1 && (leb 1 (r .number) && leb (r .number) 256)
+
+-- whether a record "of kind 16" stands at the front
+abbrev pub bearerFirst : List ℕ → Bool
+bearerFirst rest = leb 32 (length rest) && eqb (getD rest 0 0) 16
+
+-- how many such records stand at the front, "at most its count"
+unfoldable pub bearersIn : ℕ → List ℕ → ℕ
+bearersIn zero rest = 0
+bearersIn (suc most) rest = cond (bearerFirst rest) (suc (bearersIn most (drop 32 rest))) 0
+
+-- the event of a whole record, by what stands after it
+abbrev pub pieceOf : Record → List ℕ → ℕ → Piece
+pieceOf r bytes next =
+    cond (takesBearers r) (Request r (next + 32 * bearersIn (r .number) (drop next bytes))) (Single r next)
+
+-- the event that starts at a place: what is left of a record is one of its own
+abbrev pub pieceAt : List ℕ → ℕ → Piece
+pieceAt bytes at =
+    cond (leb (length bytes) at) Nothing
+    (cond (roomAt bytes at) (pieceOf (recordOf (take 32 (drop at bytes))) bytes (at + 32)) (Short (length bytes)))
