@@ -2,6 +2,7 @@
 use Prim.Native.Nat.{ℕ, zero, suc, _+_, _*_, _-_}
 use mathlib.Core.Bool.{Bool, cond, _&&_}
 use mathlib.Core.List.{List, [], _∷_}
+use mathlib.Core.Option.{Option, none, some, Option·elim}
 use lib.Dec.{leb, eqb}
 use lib.ListN.{length, take, drop, getD}
 use Rattle.records.specs.Record.{recordOf, roomAt}
@@ -32,3 +33,20 @@ abbrev pub pieceAt : List ℕ → ℕ → Piece
 pieceAt bytes at =
     cond (leb (length bytes) at) Nothing
     (cond (roomAt bytes at) (pieceOf (recordOf (take 32 (drop at bytes))) bytes (at + 32)) (Short (length bytes)))
+
+-- where the next event starts, if one stands here
+abbrev pub nextOf : Piece → Option ℕ
+nextOf Nothing = none
+nextOf (Short next) = some next
+nextOf (Single r next) = some next
+nextOf (Request r next) = some next
+
+-- the bytes of each event from a place on, in order, in at most so many steps
+unfoldable pub eventsFrom : ℕ → List ℕ → ℕ → List (List ℕ)
+eventsFrom zero bytes at = []
+eventsFrom (suc steps) bytes at =
+    Option·elim (nextOf (pieceAt bytes at)) [] (λ next. take (next - at) (drop at bytes) ∷ eventsFrom steps bytes next)
+
+-- the bytes of each event of a stream, in order: as many steps as bytes are enough
+abbrev pub events : List ℕ → List (List ℕ)
+events bytes = eventsFrom (length bytes) bytes 0

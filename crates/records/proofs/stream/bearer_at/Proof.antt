@@ -1,8 +1,8 @@
 -- The test of the place, said of the rest of the stream.
 use borrow.Author.Needs.{needs}
 use borrow.Author.Tests.{leb-true}
-use Prim.Native.Nat.{_+_, _≤_}
-use mathlib.Core.Path.{_≡_, sym, _∙_}
+use Prim.Native.Nat.{_+_}
+use mathlib.Core.Path.{sym, _∙_}
 use native.Mathlib.Omega.{arith}
 use lib.ListN.{length}
 use Rattle.records.proofs.Rest.{room-rest, first-rest}

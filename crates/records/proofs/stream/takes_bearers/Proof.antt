@@ -1,6 +1,5 @@
 -- Each way out says the tests that led there.
 use borrow.Author.Tests.{eq-eqb, ne-eqb, le-leb, lt-leb}
-use native.Mathlib.Omega.{arith}
 use Rattle.records.proofs.stream.takes_bearers.Statement.{statement}
 use Rattle.records.proofs.stream.takes_bearers.Tie as tie
 
