@@ -1,3 +1,4 @@
 pub mod Cutting
 pub mod Little
 pub mod Rest
+pub mod RoundTrip

@@ -1,15 +1,15 @@
 -- Laws of little-endian numbers.
-use Prim.Native.Nat.{ℕ, suc, _+_, _*_, _-_, _^_, _<_, _≤_}
-use mathlib.Core.Path.{_≡_, refl, subst, sym}
-use mathlib.Core.List.{List, _∷_}
+use Prim.Native.Nat.{ℕ, zero, suc, _+_, _*_, _-_, _/_, _%_, _^_, _<_, _≤_}
+use mathlib.Core.Path.{_≡_, refl}
+use mathlib.Core.List.{List, [], _∷_}
 use native.Mathlib.Omega.{arith}
 use native.Mathlib.Numerals.{add-one}
 use native.Mathlib.Nat.{mul-suc}
 use lib.Arith.{digits-lt}
-use lib.ListN.{length, getD, take, drop}
-use lib.Pow.{pow-add, pow-mono}
+use lib.ListN.{length, getD, take}
+use lib.Pow.{pow-add, pow-mono, pow-pos, shr-lt}
 use lib.Seq.{drop-cons}
-use Rattle.records.specs.Record.{little, fieldAt}
+use Rattle.records.specs.Record.{little, littleOf, fieldAt, AreBytes}
 
 -- A field is its first byte and 256 times the field after it.
 pub field-step : (bytes : List ℕ) (at width : ℕ) → at < length bytes → fieldAt bytes at (suc width) ≡ getD bytes at 0 + 256 * fieldAt bytes (at + 1) width
@@ -32,3 +32,28 @@ taken bytes at width left value some «in» room e =
     let more : width - (left - 1) ≡ suc (width - left) = omega arith in
     let next : at + (left - 1) + 1 ≡ at + left = omega arith in
     rw (more, field-step bytes (at + (left - 1)) (width - left) (omega arith), next, ← e) (omega arith)
+
+-- A number is read back from its bytes, where there are enough of them.
+pub back : (width n : ℕ) → n < 2 ^ (8 * width) → little (littleOf width n) ≡ n
+unfolding little
+back zero n h = omega arith
+back (suc width) n h =
+    let high : n / 256 < 2 ^ (8 * width) = shr-lt (8 * width) 8 (rw mul-suc at h) in
+    rw (back width (n / 256) high) (omega arith)
+
+-- Bytes are read back from their number.
+pub forth : (bytes : List ℕ) → AreBytes bytes → littleOf (length bytes) (little bytes) ≡ bytes
+unfolding little
+forth [] h = refl
+forth (b ∷ bytes) h =
+    let byte : b < 2 ^ 8 = h 0 in
+    let low : (b + 256 * little bytes) % 256 ≡ b = omega arith in
+    let high : (b + 256 * little bytes) / 256 ≡ little bytes = omega arith in
+    rw (low, high, forth bytes (λ i. h (suc i)))
+
+-- A field of bytes fits its width.
+pub fits : (width : ℕ) (bytes : List ℕ) → AreBytes bytes → little (take width bytes) < 2 ^ (8 * width)
+unfolding little
+fits zero bytes h = omega arith
+fits (suc width) [] h = pow-pos (8 * suc width)
+fits (suc width) (b ∷ bytes) h = omega (arith, shift-in width (fits width bytes (λ i. h (suc i))) (h 0))

@@ -8,14 +8,13 @@ use borrow.Author.Tests.{leb-true, lt-leb}
 use native.Mathlib.Omega.{arith}
 use native.Mathlib.Nat.{add-zero}
 use lib.Dec.{leb}
-use lib.ListN.{length, drop, getD, length-drop}
+use lib.ListN.{length, take, drop, getD, length-drop}
 use lib.Seq.{drop-drop, getD-drop}
 use Rattle.laws.proofs.Tests.{same-leb}
-use Rattle.records.specs.Record.{roomAt, readAt}
+use Rattle.records.specs.Record.{recordOf, roomAt, readAt}
 use Rattle.records.specs.declared.Record.{Record}
 use Rattle.records.specs.declared.Read.the-variants.{Whole, Nothing}
 use Rattle.records.specs.Stream.{bearerFirst, bearersIn, pieceOf, pieceAt}
-use Rattle.records.specs.declared.stream.Piece.{Piece}
 use Rattle.records.specs.declared.stream.Piece.the-variants.{Short}
 
 -- A record stands at the front of the rest where there is room for one at the place.
@@ -44,19 +43,21 @@ stop rest zero none = refl
 stop rest (suc left) (inl none) = absurd (omega arith)
 stop rest (suc left) (inr none) = rw none
 
--- What was read says which way the test of the room went.
-was-whole : (room : Bool) (there r : Record) (F : Record → Piece) (short : Piece) → cond room (Whole there) Nothing ≡ Whole r → cond room (F there) short ≡ F r
-was-whole true there r F short e = ap F (cc)
-was-whole false there r F short e = let never : _≡_ {A = ℕ} 0 1 = cc in absurd (omega arith)
+-- What was read says that there was room, and which record it is.
+pub was-whole : (room : Bool) (there r : Record) → cond room (Whole there) Nothing ≡ Whole r → (room ≡ true) × (there ≡ r)
+was-whole true there r e = (refl, cc)
+was-whole false there r e = let never : _≡_ {A = ℕ} 0 1 = cc in absurd (omega arith)
 
-was-short : (room : Bool) (there : Record) (whole short : Piece) → cond room (Whole there) Nothing ≡ Nothing → cond room whole short ≡ short
-was-short true there whole short e = let never : _≡_ {A = ℕ} 0 1 = cc in absurd (omega arith)
-was-short false there whole short e = refl
+pub was-short : (room : Bool) (there : Record) → cond room (Whole there) Nothing ≡ Nothing → room ≡ false
+was-short true there e = let never : _≡_ {A = ℕ} 0 1 = cc in absurd (omega arith)
+was-short false there e = refl
 
 -- Where a record was read, the event is that record's.
 pub piece-whole : (bytes : List ℕ) (at : ℕ) (r : Record) → at < length bytes → readAt bytes at ≡ Whole r → pieceAt bytes at ≡ pieceOf r bytes (at + 32)
-piece-whole bytes at r some e = rw (lt-leb (length bytes) at some) (was-whole (roomAt bytes at) _ r (λ there. pieceOf there bytes (at + 32)) _ e)
+piece-whole bytes at r some e =
+    let was = was-whole (roomAt bytes at) (recordOf (take 32 (drop at bytes))) r e in
+    rw (lt-leb (length bytes) at some, was .0, was .1)
 
 -- Where bytes are left but no record was read, the event is what is left.
 pub piece-short : (bytes : List ℕ) (at : ℕ) → at < length bytes → readAt bytes at ≡ Nothing → pieceAt bytes at ≡ Short (length bytes)
-piece-short bytes at some e = rw (lt-leb (length bytes) at some) (was-short (roomAt bytes at) _ _ _ e)
+piece-short bytes at some e = rw (lt-leb (length bytes) at some, was-short (roomAt bytes at) (recordOf (take 32 (drop at bytes))) e)

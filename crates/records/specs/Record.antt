@@ -1,9 +1,9 @@
 -- Records of 32 bytes.
-use Prim.Native.Nat.{ℕ, zero, suc, _+_, _*_, _/_, _%_}
+use Prim.Native.Nat.{ℕ, zero, suc, _+_, _*_, _/_, _%_, _^_, _<_}
 use mathlib.Core.Bool.{Bool, cond}
 use mathlib.Core.List.{List, [], _∷_, _++_}
 use lib.Dec.{leb}
-use lib.ListN.{length, take, drop}
+use lib.ListN.{length, take, drop, getD}
 use Rattle.records.specs.declared.Record.{Record}
 use Rattle.records.specs.declared.Read.{Read}
 use Rattle.records.specs.declared.Read.the-variants.{Whole, Nothing}
@@ -62,3 +62,25 @@ readAt bytes at = cond (roomAt bytes at) (Whole (recordOf (take 32 (drop at byte
 -- what writing at a place leaves: "a short buffer is left as found"
 abbrev pub writtenAt : Record → List ℕ → ℕ → List ℕ
 writtenAt r bytes at = cond (roomAt bytes at) (take at bytes ++ bytesOf r ++ drop (at + 32) bytes) bytes
+
+-- a list of bytes
+abbrev pub AreBytes : List ℕ → Type 0
+AreBytes bytes = (i : ℕ) → getD bytes i 0 < 2 ^ 8
+
+-- each field fits its width
+pub record InRange (r : Record) : Type 0 where
+  pub kind : r .kind < 2 ^ 8
+  pub neighbour : r .neighbour < 2 ^ 8
+  pub old : r .old .0 < 2 ^ 16
+  pub new : r .new .0 < 2 ^ 16
+  pub first : r .first < 2 ^ 16
+  pub second : r .second < 2 ^ 16
+  pub reason : r .reason < 2 ^ 8
+  pub byte11 : r .byte11 < 2 ^ 8
+  pub number : r .number < 2 ^ 32
+  pub time : r .time < 2 ^ 64
+  pub erab : r .erab < 2 ^ 8
+  pub qci : r .qci < 2 ^ 8
+  pub priority : r .priority < 2 ^ 8
+  pub flags : r .flags < 2 ^ 8
+  pub bytes28 : r .bytes28 < 2 ^ 32
