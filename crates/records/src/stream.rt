@@ -30,10 +30,11 @@ pub fn cut(bytes: &[u8], at: usize) -> Piece
     match read {
         Read::Nothing => Piece::Short(bytes.len()),
         Read::Whole(record) => {
+            let next = at + SIZE;
             if takes_bearers(record) {
-                Piece::Request(record, past_bearers(bytes, at + SIZE, record.number))
+                Piece::Request(record, past_bearers(bytes, next, record.number))
             } else {
-                Piece::Single(record, at + SIZE)
+                Piece::Single(record, next)
             }
         }
     }

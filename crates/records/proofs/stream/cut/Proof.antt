@@ -20,17 +20,14 @@ enum-told c = search needs
 enum-known-read : tie.Need-enum-known-read
 enum-known-read c = search needs
 
+add-next : tie.Need-add-next
+add-next c = search needs
+
 takes-bearers-requires : tie.Need-takes-bearers-requires
 takes-bearers-requires c κs = search needs
 
-add-past-bearers : tie.Need-add-past-bearers
-add-past-bearers c = search needs
-
 past-bearers-requires : tie.Need-past-bearers-requires
 past-bearers-requires c κs = search needs
-
-add-t13 : tie.Need-add-t13
-add-t13 c = search needs
 
 returns-2 : tie.Need-returns-2
 returns-2 c =
@@ -61,10 +58,9 @@ cut-spec =
     read-requires
     enum-told
     enum-known-read
+    add-next
     takes-bearers-requires
-    add-past-bearers
     past-bearers-requires
-    add-t13
     returns-2
     returns-3
     returns-4)
