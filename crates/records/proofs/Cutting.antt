@@ -72,12 +72,13 @@ some-each bytes at after none h event ih m = absurd (List·Memᴰ·not-nil m)
 some-each bytes at after (some next) h event ih m =
     ⊎-elim (λ e. omega (arith, rw (length-take, length-drop) at (ap length e))) (λ m. ih next m) (List·Memᴰ·cases-cons m)
 
+-- No event from a place on is empty.
 pub some-from : (steps : ℕ) (bytes : List ℕ) (at : ℕ) (event : List ℕ) → List·Memᴰ event (eventsFrom steps bytes at) → 0 < length event
 unfolding eventsFrom
 some-from zero bytes at event m = absurd (List·Memᴰ·not-nil m)
 some-from (suc steps) bytes at event m =
     some-each bytes at (eventsFrom steps bytes) (nextOf (pieceAt bytes at)) (onward bytes at) event (λ next m. some-from steps bytes next event m) m
 
--- No event is empty.
+-- No event of a stream is empty.
 pub some-byte : (bytes event : List ℕ) → List·Memᴰ event (events bytes) → 0 < length event
 some-byte bytes event m = some-from (length bytes) bytes 0 event m

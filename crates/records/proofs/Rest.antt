@@ -48,6 +48,7 @@ pub was-whole : (room : Bool) (there r : Record) → cond room (Whole there) Not
 was-whole true there r e = (refl, cc)
 was-whole false there r e = let never : _≡_ {A = ℕ} 0 1 = cc in absurd (omega arith)
 
+-- Where nothing was read there was no room.
 pub was-short : (room : Bool) (there : Record) → cond room (Whole there) Nothing ≡ Nothing → room ≡ false
 was-short true there e = let never : _≡_ {A = ℕ} 0 1 = cc in absurd (omega arith)
 was-short false there e = refl
