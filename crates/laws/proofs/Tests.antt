@@ -1,6 +1,6 @@
 -- Tests as facts, where the kit has them one way only.
 use mathlib.Core.Path.{_≡_, refl, _∙_, sym}
-use mathlib.Core.Bool.{Bool, true, false}
+use mathlib.Core.Bool.{Bool, true, false, _&&_, false≢true}
 use mathlib.Core.Logic.{_⊎_, inl, inr, ⊎-elim}
 use Prim.Native.Nat.{ℕ, _≤_}
 use borrow.Author.Tests.{leb-true, leb-false, le-leb, lt-leb}
@@ -22,3 +22,13 @@ same-leb a b c d there back =
     (λ u. t ∙ sym u)
     (split (leb c d)))
     (split (leb a b))
+
+-- A fact by the two ways in which a test comes out.
+pub by-cases : {G : Type 0} (b : Bool) → (b ≡ true → G) → (b ≡ false → G) → G
+by-cases true held failed = held refl
+by-cases false held failed = failed refl
+
+-- Two tests that hold together hold each.
+pub both-true : (a b : Bool) → (a && b) ≡ true → (a ≡ true) × (b ≡ true)
+both-true true b t = (refl, t)
+both-true false b t = absurd (false≢true t)

@@ -1,0 +1,162 @@
+-- Who gets units when the turns are taken one after the other: those that fit at their turn.
+use Prim.Native.Nat.{ℕ, zero, suc, _+_, _-_, _≤_, _<_}
+use mathlib.Core.Path.{_≡_, refl, _∙_, sym, ap, ap₂}
+use mathlib.Core.Bool.{Bool, true, false, cond, not, _&&_, _||_, true≢false}
+use mathlib.Core.List.{List, [], _∷_, _++_, map}
+use borrow.Author.Tests.{eq-eqb, ne-eqb, eqb-true, eqb-false, le-leb, lt-leb, lt-ltb, le-ltb, leb-true, leb-false, ltb-true, ltb-false}
+use native.Mathlib.Omega.{arith}
+use lib.Bits.{or-zero-r}
+use lib.Dec.{leb, ltb, eqb}
+use lib.ListN.{length}
+use Rattle.laws.proofs.Tests.{by-cases}
+use Rattle.bearers.specs.declared.Bearer.{Bearer}
+use Rattle.bearers.specs.declared.Grants.{Grants}
+use Rattle.bearers.specs.Admission.{total, those, occurs, standing, hasTurn, turnsFrom, turns, after, freeAt, verdict, admitted, refused, idsOf}
+use Rattle.bearers.specs.Sets.{member, add, union, setOf, among}
+use Rattle.bearers.specs.Working.{run, turnOf}
+use Rattle.bearers.proofs.Membership.{same-members, member-setOf}
+use Rattle.bearers.proofs.Sums.{Each, total-same, total-equal, total-le, total-those, total-turns, total-none, within}
+use Rattle.bearers.proofs.Writing.{union-slide}
+
+-- ---- the walk
+
+-- the bearers that get units, in the order of their turns
+unfoldable pub granted : List Bearer → ℕ → List Bearer
+granted [] free = []
+granted (t ∷ ts) free = cond (leb (t .units) free) (t ∷ granted ts (free - t .units)) (granted ts free)
+
+abbrev pub units : Bearer → ℕ
+units b = b .units
+
+-- They get no more than is free.
+pub granted-le : (ts : List Bearer) (free : ℕ) → total units (granted ts free) ≤ free
+unfolding granted total units
+granted-le [] free = omega arith
+granted-le (t ∷ ts) free =
+    by-cases (leb (t .units) free)
+    (λ e. rw e (omega (arith, leb-true (t .units) free e, granted-le ts (free - t .units))))
+    (λ e. rw e (granted-le ts free))
+
+-- The code's turns leave the IDs of those, and the units that they did not get.
+abbrev pub grants : ℕ → ℕ → Grants
+grants set free = record { admitted = set; free = free }
+
+same-grants : {a b x y : ℕ} → a ≡ b → x ≡ y → grants a x ≡ grants b y
+same-grants p q = λ i. record { admitted = p i; free = q i }
+
+pub run-granted : (ts : List Bearer) (set free : ℕ) → run ts (grants set free) ≡ grants (union set (idsOf (granted ts free))) (free - total units (granted ts free))
+unfolding run granted total units setOf
+run-granted [] set free = same-grants (sym (or-zero-r set)) (omega arith)
+run-granted (t ∷ ts) set free =
+    by-cases (leb (t .units) free)
+    (λ e.
+    let rest = granted ts (free - t .units) in
+    rw e
+    (run-granted ts (add set (t .id)) (free - t .units)
+    ∙ same-grants (sym (union-slide set (idsOf rest) (t .id))) (omega (arith, leb-true (t .units) free e, granted-le ts (free - t .units)))))
+    (λ e. rw e (run-granted ts set free))
+
+-- ---- those that fit at their turn
+
+-- Two tests that agree on the IDs of a list pick the same bearers of it.
+those-same : (p q : Bearer → Bool) (bs : List Bearer) → ((b : Bearer) → 0 < occurs (b .id) bs → p b ≡ q b) → those p bs ≡ those q bs
+unfolding those total
+those-same p q [] same = refl
+those-same p q (b ∷ bs) same =
+    let first : p b ≡ q b = same b (rw (eq-eqb (b .id) (b .id) refl) (omega arith)) in
+    let others = those-same p q bs (λ x h. same x (omega arith)) in
+    rw (first, others)
+
+-- A list in which no ID occurs twice.
+abbrev pub Distinct : List Bearer → Type 0
+Distinct bs = (k : ℕ) → occurs k bs ≤ 1
+
+abbrev pub fits : List Bearer → ℕ → Bearer → Bool
+fits ts free b = leb (b .units) (freeAt ts (b .id) free)
+
+-- At the turns after the first, what is free is what the first has left.
+fits-after : (t : Bearer) (ts : List Bearer) (free : ℕ) → Distinct (t ∷ ts) → those (fits (t ∷ ts) free) ts ≡ those (fits ts (after free t)) ts
+unfolding fits freeAt total
+fits-after t ts free distinct =
+    those-same (fits (t ∷ ts) free) (fits ts (after free t)) ts
+    (λ b h.
+    let other : t .id ≡ b .id → ⊥ = λ e. clash b h e (distinct (t .id)) in
+    rw (ne-eqb (t .id) (b .id) other))
+  where
+    clash : (b : Bearer) → 0 < occurs (b .id) ts → t .id ≡ b .id → occurs (t .id) (t ∷ ts) ≤ 1 → ⊥
+    clash b h e d =
+        let once : 1 + occurs (t .id) ts ≤ 1 = rw (eq-eqb (t .id) (t .id) refl) at d in
+        let some : 0 < occurs (t .id) ts = rw e h in
+        omega arith
+
+granted-those : (ts : List Bearer) (free : ℕ) → Distinct ts → granted ts free ≡ those (fits ts free) ts
+unfolding granted those fits freeAt total
+granted-those [] free distinct = refl
+granted-those (t ∷ ts) free distinct =
+    let rest : Distinct ts = λ k. omega (arith, distinct k) in
+    let next : (left : ℕ) → after free t ≡ left → granted ts left ≡ those (fits (t ∷ ts) free) ts =
+    λ left e. granted-those ts left rest ∙ sym (fits-after t ts free distinct ∙ ap (λ (n : ℕ). those (fits ts n) ts) e) in
+    rw (eq-eqb (t .id) (t .id) refl)
+    (by-cases (leb (t .units) free)
+    (λ e. rw e (ap (λ (l : List Bearer). t ∷ l) (next (free - t .units) (rw e))))
+    (λ e. rw e (next free (rw e))))
+
+-- ---- of the turns of a request, those are the bearers with verdict 0
+
+-- what a bearer's record settles
+abbrev pub Formed : Bearer → Type 0
+Formed b = (b .id < 16) × (b .priority ≤ 15)
+
+module _ (gbr : ℕ → Bool) (free : ℕ) (bs : List Bearer) where
+  -- A bearer that has a turn occurs once, and has a priority.
+  pub turn-once : (b : Bearer) → hasTurn gbr bs b ≡ true → (occurs (b .id) bs ≤ 1) × (1 ≤ b .priority)
+  turn-once b t =
+      by-cases (ltb 1 (occurs (b .id) bs))
+      (λ u. absurd (true≢false (sym t ∙ rw u)))
+      (λ u.
+      by-cases (eqb (b .priority) 0)
+      (λ v. absurd (true≢false (sym t ∙ rw (u, v))))
+      (λ v. (ltb-false 1 (occurs (b .id) bs) u, omega (arith, eqb-false (b .priority) 0 v))))
+
+  -- Verdict 0 is a turn at which the units fit.
+  pub zero-means : (b : Bearer) → eqb (verdict gbr free bs b) 0 ≡ (hasTurn gbr bs b && fits (turns gbr bs) free b)
+  unfolding verdict fits
+  zero-means b =
+      by-cases (hasTurn gbr bs b)
+      (λ t. rw t (by-cases (leb (b .units) (freeAt (turns gbr bs) (b .id) free)) (λ u. rw u) (λ u. rw u)))
+      (λ t. rw t t)
+
+  -- No ID has two turns.
+  turns-distinct : Distinct (turns gbr bs)
+  turns-distinct k =
+      let once : Bearer → ℕ = λ b. cond (eqb (b .id) k) 1 0 in
+      let all : occurs k (turns gbr bs) ≤ total (λ b. cond (hasTurn gbr bs b) (once b) 0) bs =
+      rw (total-turns once 15 1 (those (hasTurn gbr bs) bs), ← total-those once (hasTurn gbr bs) bs)
+      (total-le _ once (those (hasTurn gbr bs) bs) (λ b. by-cases (within 1 15 b) (λ t. rw t (omega arith)) (λ t. rw t (omega arith)))) in
+      by-cases (ltb 1 (occurs k bs))
+      (λ t.
+      let none : (b : Bearer) → cond (hasTurn gbr bs b) (once b) 0 ≡ 0 =
+      λ b. by-cases (eqb (b .id) k)
+      (λ u. rw (eqb-true (b .id) k u, t))
+      (λ u. rw u (by-cases (hasTurn gbr bs b) (λ v. rw v) (λ v. rw v))) in
+      omega (arith, total-equal (λ b. cond (hasTurn gbr bs b) (once b) 0) (λ b. 0) bs none, total-none bs))
+      (λ t. omega (arith, ltb-false 1 (occurs k bs) t, total-le (λ b. cond (hasTurn gbr bs b) (once b) 0) once bs (λ b. by-cases (hasTurn gbr bs b) (λ u. rw u (omega arith)) (λ u. rw u (omega arith)))))
+
+  -- A number summed over who got units is that number summed over who has verdict 0.
+  pub granted-total : Each Formed bs → (f : Bearer → ℕ) → total f (granted (turns gbr bs) free) ≡ total f (admitted gbr free bs)
+  granted-total each f =
+      let ts = turns gbr bs in
+      let got : Bearer → ℕ = λ b. cond (fits ts free b) (f b) 0 in
+      ap (total f) (granted-those ts free turns-distinct)
+      ∙ total-those f (fits ts free) ts
+      ∙ total-turns got 15 1 (those (hasTurn gbr bs) bs)
+      ∙ total-those (λ b. cond (within 1 15 b) (got b) 0) (hasTurn gbr bs) bs
+      ∙ total-same _ _ bs each same
+      ∙ sym (total-those f (λ b. eqb (verdict gbr free bs b) 0) bs)
+    where
+      same : (b : Bearer) → Formed b → cond (hasTurn gbr bs b) (cond (within 1 15 b) (cond (fits (turns gbr bs) free b) (f b) 0) 0) 0 ≡ cond (eqb (verdict gbr free bs b) 0) (f b) 0
+      same b formed =
+          rw (zero-means b)
+          (by-cases (hasTurn gbr bs b)
+          (λ t. rw (t, le-leb 1 (b .priority) (turn-once b t .1), lt-ltb (b .priority) 16 (omega arith)))
+          (λ t. rw t))

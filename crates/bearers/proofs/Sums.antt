@@ -1,0 +1,124 @@
+-- Sums over bearers, and the lists that they are taken of.
+use Prim.Native.Nat.{ℕ, zero, suc, _+_, _≤_, _<_}
+use mathlib.Core.Path.{_≡_, refl, _∙_, sym, ap, ap₂}
+use mathlib.Core.Bool.{Bool, true, false, cond, _&&_}
+use mathlib.Core.List.{List, [], _∷_, _++_, map}
+use borrow.Author.Tests.{eq-eqb, ne-eqb, eqb-true, eqb-false, le-leb, lt-leb, lt-ltb, le-ltb, leb-true, leb-false}
+use native.Mathlib.Omega.{arith}
+use lib.Dec.{leb, ltb, eqb}
+use lib.ListN.{length, getD}
+use lib.Seq.{append-snoc}
+use Rattle.laws.proofs.Tests.{by-cases}
+use Rattle.bearers.specs.declared.Bearer.{Bearer}
+use Rattle.bearers.specs.Admission.{total, those, occurs, turnsFrom}
+
+-- what holds of each bearer of a list
+abbrev pub Each : (Bearer → Type 0) → List Bearer → Type 0
+Each P [] = Unit {0}
+Each P (b ∷ bs) = P b × Each P bs
+
+-- Two numbers that agree for each bearer have the same sum.
+pub total-same : {P : Bearer → Type 0} (f g : Bearer → ℕ) (bs : List Bearer) → Each P bs → ((b : Bearer) → P b → f b ≡ g b) → total f bs ≡ total g bs
+unfolding total
+total-same f g [] each same = refl
+total-same f g (b ∷ bs) each same = ap₂ _+_ (same b (each .0)) (total-same f g bs (each .1) same)
+
+-- The same, where they agree whatever the bearer.
+pub total-equal : (f g : Bearer → ℕ) (bs : List Bearer) → ((b : Bearer) → f b ≡ g b) → total f bs ≡ total g bs
+unfolding total
+total-equal f g [] same = refl
+total-equal f g (b ∷ bs) same = ap₂ _+_ (same b) (total-equal f g bs same)
+
+-- A number that is at most another for each bearer has at most its sum.
+pub total-le : (f g : Bearer → ℕ) (bs : List Bearer) → ((b : Bearer) → f b ≤ g b) → total f bs ≤ total g bs
+unfolding total
+total-le f g [] le = omega arith
+total-le f g (b ∷ bs) le = omega (arith, le b, total-le f g bs le)
+
+-- The sum of two lists, of two numbers, of none, and of those that pass a test.
+pub total-append : (f : Bearer → ℕ) (xs ys : List Bearer) → total f (xs ++ ys) ≡ total f xs + total f ys
+unfolding total
+total-append f [] ys = omega arith
+total-append f (x ∷ xs) ys = omega (arith, total-append f xs ys)
+
+pub total-add : (f g : Bearer → ℕ) (bs : List Bearer) → total (λ b. f b + g b) bs ≡ total f bs + total g bs
+unfolding total
+total-add f g [] = refl
+total-add f g (b ∷ bs) = omega (arith, total-add f g bs)
+
+pub total-none : (bs : List Bearer) → total (λ b. 0) bs ≡ 0
+unfolding total
+total-none [] = refl
+total-none (b ∷ bs) = omega (arith, total-none bs)
+
+pub total-those : (f : Bearer → ℕ) (test : Bearer → Bool) (bs : List Bearer) → total f (those test bs) ≡ total (λ b. cond (test b) (f b) 0) bs
+unfolding total those
+total-those f test [] = refl
+total-those f test (b ∷ bs) = by-cases (test b) (λ t. rw t (omega (arith, total-those f test bs))) (λ t. rw t (omega (arith, total-those f test bs)))
+
+-- The sum over the turns of some priorities is that over the bearers with such a priority.
+abbrev pub within : ℕ → ℕ → Bearer → Bool
+within p n b = leb p (b .priority) && ltb (b .priority) (p + n)
+
+within-more : (f : Bearer → ℕ) (p n : ℕ) (b : Bearer) → cond (eqb (b .priority) p) (f b) 0 + cond (within (p + 1) n b) (f b) 0 ≡ cond (within p (suc n) b) (f b) 0
+within-more f p n b =
+    let x = b .priority in
+    by-cases (eqb x p)
+    (λ t. let same : x ≡ p = eqb-true x p t in
+    rw (t, lt-leb (p + 1) x (omega arith), le-leb p x (omega arith), lt-ltb x (p + suc n) (omega arith)) (omega arith))
+    (λ t. let other : x ≡ p → ⊥ = eqb-false x p t in
+    by-cases (leb p x)
+    (λ u. let above : p < x = omega (arith, leb-true p x u) in
+    let end : p + 1 + n ≡ p + suc n = omega arith in
+    rw (t, u, le-leb (p + 1) x (omega arith), end) (omega arith))
+    (λ u. let below : x < p = leb-false p x u in
+    rw (t, u, lt-leb (p + 1) x (omega arith)) (omega arith)))
+
+pub total-turns : (f : Bearer → ℕ) (n p : ℕ) (bs : List Bearer) → total f (turnsFrom n p bs) ≡ total (λ b. cond (within p n b) (f b) 0) bs
+unfolding turnsFrom total
+total-turns f zero p bs = sym (total-equal (λ b. cond (within p 0 b) (f b) 0) (λ b. 0) bs (λ b. none p b) ∙ total-none bs)
+  where
+    none : (p : ℕ) (b : Bearer) → cond (within p 0 b) (f b) 0 ≡ 0
+    none p b =
+        by-cases (leb p (b .priority))
+        (λ t. rw (t, le-ltb (b .priority) (p + 0) (omega (arith, leb-true p (b .priority) t))))
+        (λ t. rw t)
+total-turns f (suc n) p bs =
+    total-append f (those (λ b. eqb (b .priority) p) bs) (turnsFrom n (p + 1) bs)
+    ∙ ap₂ _+_ (total-those f (λ b. eqb (b .priority) p) bs) (total-turns f n (p + 1) bs)
+    ∙ sym (total-add (λ b. cond (eqb (b .priority) p) (f b) 0) (λ b. cond (within (p + 1) n b) (f b) 0) bs)
+    ∙ total-equal _ _ bs (within-more f p n)
+
+-- ---- what holds of each bearer
+
+-- What holds wherever the list is split holds of each.
+pub each-split : (P : Bearer → Type 0) (bs : List Bearer) → ((before : List Bearer) (b : Bearer) (later : List Bearer) → bs ≡ before ++ b ∷ later → P b) → Each P bs
+each-split P bs holds = go [] bs refl
+  where
+    go : (before left : List Bearer) → bs ≡ before ++ left → Each P left
+    go before [] e = tt
+    go before (b ∷ left) e = (holds before b left e, go (before ++ b ∷ []) left (e ∙ sym (append-snoc before b left)))
+
+-- What holds of each place holds of each bearer.
+pub each-place : (P : Bearer → Type 0) (bs : List Bearer) → ((j : ℕ) (d : Bearer) → j < length bs → P (getD bs j d)) → Each P bs
+each-place P [] holds = tt
+each-place P (b ∷ bs) holds = (holds 0 b (omega arith), each-place P bs (λ j d h. holds (suc j) d (omega arith)))
+
+-- What holds of each bearer holds of the one at which the list is split, and what follows from it holds of each.
+pub each-here : (P : Bearer → Type 0) (before : List Bearer) (b : Bearer) (later : List Bearer) → Each P (before ++ b ∷ later) → P b
+each-here P [] b later each = each .0
+each-here P (x ∷ before) b later each = each-here P before b later (each .1)
+
+pub each-map : (P Q : Bearer → Type 0) (bs : List Bearer) → ((b : Bearer) → P b → Q b) → Each P bs → Each Q bs
+each-map P Q [] f each = tt
+each-map P Q (b ∷ bs) f each = (f b (each .0), each-map P Q bs f (each .1))
+
+-- Where two functions agree on each bearer, the lists that they make are the same.
+pub map-each : (f g : Bearer → ℕ) (bs : List Bearer) → Each (λ b. f b ≡ g b) bs → map f bs ≡ map g bs
+map-each f g [] same = refl
+map-each f g (b ∷ bs) same = ap₂ _∷_ (same .0) (map-each f g bs (same .1))
+
+pub those-each : (p q : Bearer → Bool) (bs : List Bearer) → Each (λ b. p b ≡ q b) bs → those p bs ≡ those q bs
+unfolding those
+those-each p q [] same = refl
+those-each p q (b ∷ bs) same = rw (same .0, those-each p q bs (same .1))

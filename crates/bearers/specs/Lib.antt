@@ -1,0 +1,4 @@
+pub mod Sets
+pub mod Bearer
+pub mod Admission
+pub mod Working
