@@ -3,9 +3,6 @@ use native.Mathlib.Omega.{arith}
 use borrow.Author.Needs.{needs}
 use Rattle.records.proofs.fields.Statement.{statement}
 use Rattle.records.proofs.fields.Tie as tie
-use Rattle.records.proofs.fields.Reads as reads
-use Rattle.records.proofs.fields.Lts as lts
-use Rattle.records.proofs.get.Reads as get-reads
 
 get-requires : tie.Need-get-requires
 get-requires c κs = search needs

@@ -1,17 +1,12 @@
-use borrow.Author.Needs.{needs}
 -- The bytes are taken from the highest down: what has been taken is the field that starts at `at + left`.
-use Prim.Native.Nat.{ℕ, suc, _≤_, _<_, _+_, _*_, _-_, _^_}
+use Prim.Native.Nat.{suc, _≤_, _<_, _+_, _*_, _-_, _^_}
 use native.Mathlib.Omega.{arith}
-use native.Mathlib.Nat.{le-trans}
-use mathlib.Core.Path.{_≡_, subst}
-use lib.ListN.{length, getD}
-use lib.Pow.{pow-mono}
+use mathlib.Core.Path.{_≡_}
+use lib.ListN.{getD}
 use Rattle.records.specs.Record.{little, fieldAt}
 use Rattle.records.proofs.Little.{shift-in, fits-64, taken}
 use Rattle.records.proofs.get.Statement.{statement}
 use Rattle.records.proofs.get.Tie as tie
-use Rattle.records.proofs.get.Reads as reads
-use Rattle.records.proofs.get.Lts as lts
 
 abbrev Inv-loop : tie.InvT-loop
 Inv-loop bytes at width value₀ left₀ value left = (left ≤ width) × (value ≡ fieldAt bytes (at + left) (width - left)) × (value < 2 ^ (8 * (width - left)))

@@ -1,17 +1,13 @@
 -- Where there is room, the part that is handed on is the record's 32 bytes.
 use borrow.Author.Needs.{needs}
 use borrow.Author.Tests.{leb-true}
-use Prim.Native.Nat.{_+_, _-_, _≤_}
-use mathlib.Core.Path.{_≡_, ap, sym, _∙_}
+use Prim.Native.Nat.{_+_, _≤_}
+use mathlib.Core.Path.{sym, _∙_}
 use native.Mathlib.Nat.{add-sub-cancel-left}
 use native.Mathlib.Omega.{arith}
-use lib.ListN.{length, take, drop}
+use lib.ListN.{length}
 use Rattle.records.proofs.Record.read.Statement.{statement}
 use Rattle.records.proofs.Record.read.Tie as tie
-use Rattle.records.proofs.Record.read.Reads as reads
-use Rattle.records.proofs.Record.read.Lts as lts
-use Rattle.records.proofs.fields.Reads as fields-reads
-use Rattle.records.proofs.has_room.Reads as has-room-reads
 
 has-room-requires : tie.Need-has-room-requires
 has-room-requires c κs = search needs

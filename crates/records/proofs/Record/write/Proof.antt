@@ -8,11 +8,6 @@ use Rattle.laws.proofs.Lists.{copied, replaced}
 use borrow.Author.Needs.{needs}
 use Rattle.records.proofs.Record.write.Statement.{statement}
 use Rattle.records.proofs.Record.write.Tie as tie
-use Rattle.records.proofs.Record.write.Reads as reads
-use Rattle.records.proofs.Record.write.Lts as lts
-use Rattle.bytes.proofs.copy.Reads as copy-reads
-use Rattle.records.proofs.bytes_of.Reads as bytes-of-reads
-use Rattle.records.proofs.has_room.Reads as has-room-reads
 
 has-room-requires : tie.Need-has-room-requires
 has-room-requires c κs = search needs

@@ -1,0 +1,15 @@
+use borrow.Author.Needs.{needs}
+use Rattle.table.proofs.lists_fit.Statement.{statement}
+use Rattle.table.proofs.lists_fit.Tie as tie
+
+disjoint-requires : tie.Need-disjoint-requires
+disjoint-requires c κs = search needs
+
+union-requires : tie.Need-union-requires
+union-requires c κs = search needs
+
+returns : tie.Need-returns
+returns c = cc
+
+pub lists-fit-spec : {M : Type 1} → statement M
+lists-fit-spec = tie.close (tie.spec disjoint-requires union-requires returns)

@@ -1,0 +1,12 @@
+use borrow.Author.Needs.{needs}
+use Rattle.table.proofs.refusal.Statement.{statement}
+use Rattle.table.proofs.refusal.Tie as tie
+
+silence-requires : tie.Need-silence-requires
+silence-requires c κs = search needs
+
+returns : tie.Need-returns
+returns c = cc
+
+pub refusal-spec : {M : Type 1} → statement M
+refusal-spec = tie.close (tie.spec silence-requires returns)

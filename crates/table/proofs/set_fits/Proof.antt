@@ -1,0 +1,12 @@
+use borrow.Author.Needs.{needs}
+use Rattle.table.proofs.set_fits.Statement.{statement}
+use Rattle.table.proofs.set_fits.Tie as tie
+
+within-requires : tie.Need-within-requires
+within-requires c κs = search needs
+
+returns : tie.Need-returns
+returns c = cc
+
+pub set-fits-spec : {M : Type 1} → statement M
+set-fits-spec = tie.close (tie.spec within-requires returns)

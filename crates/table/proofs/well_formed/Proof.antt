@@ -1,0 +1,51 @@
+-- A kind above 17 is none; for the others the tests are those of `wellFormed`.
+use borrow.Author.Tests.{le-leb, lt-leb, ne-eqb}
+use native.Mathlib.Omega.{arith}
+use borrow.Author.Needs.{needs}
+use Rattle.table.proofs.well_formed.Statement.{statement}
+use Rattle.table.proofs.well_formed.Tie as tie
+
+cast-kind : tie.Need-cast-kind
+cast-kind c = search needs
+
+returns : tie.Need-returns
+returns c = rw (le-leb 1 (c .before .before .args .e .kind) (omega arith), lt-leb (c .before .before .args .e .kind) 15 (omega arith), ne-eqb (c .before .before .args .e .kind) 17 (λ e. omega arith))
+
+mul-limits : tie.Need-mul-limits
+mul-limits c = search needs
+
+array-copy-out-limits : tie.Need-array-copy-out-limits
+array-copy-out-limits c = search needs
+
+is-kind-requires : tie.Need-is-kind-requires
+is-kind-requires c κs = search needs
+
+ids-within-requires : tie.Need-ids-within-requires
+ids-within-requires c κs = search needs
+
+values-within-requires : tie.Need-values-within-requires
+values-within-requires c κs = search needs
+
+others-zero-requires : tie.Need-others-zero-requires
+others-zero-requires c κs = search needs
+
+is-filled-requires : tie.Need-is-filled-requires
+is-filled-requires c κs = search needs
+
+returns-2 : tie.Need-returns-2
+returns-2 c = rw (c .before .before .before .before .is-kind .ensures, c .before .before .before .ids-within .ensures, c .before .before .values-within .ensures, c .before .others-zero .ensures, c .is-filled .ensures)
+
+pub well-formed-spec : {M : Type 1} → statement M
+well-formed-spec =
+    tie.close
+    (tie.spec
+    cast-kind
+    returns
+    mul-limits
+    array-copy-out-limits
+    is-kind-requires
+    ids-within-requires
+    values-within-requires
+    others-zero-requires
+    is-filled-requires
+    returns-2)

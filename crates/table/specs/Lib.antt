@@ -1,0 +1,5 @@
+pub mod Numbers
+pub mod Fields
+pub mod Events
+pub mod Table
+pub mod Step
