@@ -2,4 +2,5 @@ pub mod Numbers
 pub mod Fields
 pub mod Events
 pub mod Table
+pub mod Sound
 pub mod Step

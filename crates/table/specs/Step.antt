@@ -19,7 +19,7 @@ use Rattle.table.specs.declared.Station.{Station}
 use Rattle.table.specs.Numbers.{isFree, blank, nextAfter, issueFrom}
 use Rattle.table.specs.Fields.{wellFormed}
 use Rattle.table.specs.Events.{about, message, silence, decide}
-use Rattle.table.specs.Table.{find, dueFrom, at, put, add, reset}
+use Rattle.table.specs.Table.{find, soonest, at, put, add, reset}
 
 -- an answer: reply, ending, admitted count and message, beside the next station
 abbrev pub answer : ℕ → ℕ → ℕ → Record → Station → Answer
@@ -67,10 +67,10 @@ startAt e (At i) s = answer 0 0 0 (message 1 (e .neighbour) (issue s) 0 (e .firs
 
 -- "15: the clock becomes the time"; "1, 8, 9 for ticks"
 abbrev pub tickAt : Record → Found → Station → Answer
-tickAt e Nothing s = answer 9 0 0 silence s
+tickAt e Nothing s = refused 9 s
 tickAt e (At i) s = carried i (decide e (getD (s .entries) i blank) 0) s
 
 abbrev pub tickOf : Record → Station → Answer
 tickOf e s =
     cond (ltb (e .time) (s .clock)) (refused 8 s)
-    (tickAt e (dueFrom e Nothing blank 0 (s .entries)) (at (e .time) s))
+    (tickAt e (soonest e s) (at (e .time) s))

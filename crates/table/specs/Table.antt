@@ -1,16 +1,18 @@
 -- The table: how a record is found, and the ways in which a station changes.
-use Prim.Native.Nat.{ℕ, zero, suc, _+_, _-_}
+use Prim.Native.Nat.{ℕ, zero, suc, _+_, _-_, _^_, _<_, _≤_}
+use mathlib.Core.Path.{_≡_}
 use mathlib.Core.Bool.{Bool, true, false, cond, _&&_, _||_}
 use mathlib.Core.List.{List, [], _∷_, map}
 use lib.Dec.{leb, ltb, eqb}
-use lib.ListN.{getD, set}
+use lib.ListN.{length, getD, set}
 use Rattle.records.specs.declared.Record.{Record}
+use Rattle.table.specs.declared.Best.{Best}
 use Rattle.table.specs.declared.Entry.{Entry}
 use Rattle.table.specs.declared.Found.{Found}
 use Rattle.table.specs.declared.Found.the-variants.{At, Nothing}
 use Rattle.table.specs.declared.Station.{Station}
 use Rattle.table.specs.Numbers.{isFree, own, blank}
-use Rattle.table.specs.Events.{about}
+use Rattle.table.specs.Events.{key, keyed, about}
 
 -- ---- finding
 
@@ -23,18 +25,26 @@ abbrev pub find : (Entry → Bool) → Station → Found
 find test s = findFrom test 0 (s .entries)
 
 -- "of the records with deadline not above it, the least deadline, then least own ID"
-abbrev pub isDue : Record → Entry → Bool
-isDue e r = about e r && leb (r .deadline) (e .time)
+abbrev pub dueBy : (ℕ → ℕ) → Record → Entry → Bool
+dueBy by e r = keyed by e r && leb (r .deadline) (e .time)
 
 abbrev pub sooner : Entry → Entry → Bool
 sooner a b = ltb (a .deadline) (b .deadline) || eqb (a .deadline) (b .deadline) && ltb (own a) (own b)
 
--- the soonest so far, and its place
-unfoldable pub dueFrom : Record → Found → Entry → ℕ → List Entry → Found
-dueFrom e best it i [] = best
-dueFrom e Nothing it i (r ∷ rs) = cond (isDue e r) (dueFrom e (At i) r (i + 1) rs) (dueFrom e Nothing it (i + 1) rs)
-dueFrom e (At b) it i (r ∷ rs) =
-    cond (isDue e r && sooner r it) (dueFrom e (At i) r (i + 1) rs) (dueFrom e (At b) it (i + 1) rs)
+-- the soonest so far and its place, a free one standing for none; and the place, once all were looked at
+abbrev pub betterBy : (ℕ → ℕ) → Record → ℕ → Entry → Best → Best
+betterBy by e i r best =
+    cond (dueBy by e r && (isFree (best .entry) || sooner r (best .entry))) (record { place = i; entry = r }) best
+
+abbrev pub placeOf : Best → Found
+placeOf best = cond (isFree (best .entry)) Nothing (At (best .place))
+
+unfoldable pub dueFrom : Record → Best → ℕ → List Entry → Found
+dueFrom e best i [] = placeOf best
+dueFrom e best i (r ∷ rs) = dueFrom e (betterBy (key (e .kind)) e i r best) (i + 1) rs
+
+abbrev pub soonest : Record → Station → Found
+soonest e s = dueFrom e (record { place = 0; entry = blank }) 0 (s .entries)
 
 -- ---- the four ways in which a station changes
 
@@ -66,6 +76,13 @@ put i r s =
       guard = s .guard;
     }
 
+-- a place of the table, with units that can be taken back and given out
+pub record Puts (i : ℕ) (r : Entry) (s : Station) : Type 0 where
+  pub place : i < 64
+  pub places : length (s .entries) ≡ 64
+  pub back : getD (s .entries) i blank .units ≤ s .used
+  pub out : s .used + r .units < 2 ^ 32
+
 -- one record is made, with the own ID that is then the last issued
 abbrev pub add : ℕ → ℕ → Entry → Station → Station
 add i issued r s =
@@ -80,10 +97,10 @@ add i issued r s =
       guard = s .guard;
     }
 
--- the units of the records that pass a test
-unfoldable pub unitsOf : (Entry → Bool) → List Entry → ℕ
-unitsOf test [] = 0
-unitsOf test (r ∷ rs) = cond (test r) (r .units) 0 + unitsOf test rs
+-- a number for each record, added up
+unfoldable pub tally : (Entry → ℕ) → List Entry → ℕ
+tally f [] = 0
+tally f (r ∷ rs) = f r + tally f rs
 
 -- "all outgoing and held records of that neighbour end"
 abbrev pub reset : Record → Station → Station
@@ -92,7 +109,7 @@ reset e s =
       entries = map (λ r. cond (about e r) blank r) (s .entries);
       clock = s .clock;
       last = s .last;
-      used = s .used - unitsOf (about e) (s .entries);
+      used = s .used - tally (λ r. cond (about e r) (r .units) 0) (s .entries);
       capacity = s .capacity;
       prep = s .prep;
       overall = s .overall;

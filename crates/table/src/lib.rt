@@ -7,10 +7,13 @@ use records::Record;
 ghost use mathlib.Core.Path.{_≡_};
 ghost use Prim.Native.Nat.{_<_};
 ghost use mathlib.Core.Bool.{cond};
-ghost use lib.ListN.{getD};
-ghost use Rattle.table.specs.Numbers.{blank as blankOf};
+ghost use lib.ListN.{length, getD};
+ghost use Rattle.table.specs.Numbers.{isFree, blank as blankOf, own as ownOf, ownIs, anyOf, nextAfter};
 ghost use Rattle.table.specs.Fields.{isKind, isFilled, idsWithin, valuesWithin, othersZero, wellFormed};
-ghost use Rattle.table.specs.Events.{keyed, message as messageOf, silence as silenceOf, listsFit, setFits, refusal as refusalOf, decision, prepared, stored, serving, lastWord, decide as decideOf};
+ghost use Rattle.table.specs.Table.{find as findOf, betterBy, soonest as soonestOf, Puts, put as putOf};
+ghost use Rattle.table.specs.Sound.{Sound};
+ghost use Rattle.table.specs.Step.{issue as issueOf, refused as refusedOf, carried as carriedOf, aboutOne, tickOf, startAt};
+ghost use Rattle.table.specs.Events.{about, keyed, message as messageOf, silence as silenceOf, listsFit, setFits, refusal as refusalOf, decision, prepared, stored, serving, lastWord, decide as decideOf};
 
 // A record of the table: 0 free, 1 preparing, 2 prepared, 3 held, 4 serving.
 pub struct Entry {
@@ -53,6 +56,12 @@ pub struct Answer {
 enum Found {
     At(usize),
     Nothing,
+}
+
+// The soonest due record so far, and its place; none if it is free.
+struct Best {
+    place: usize,
+    entry: Entry,
 }
 
 // What an event does to the record it is about.
@@ -406,5 +415,244 @@ fn arrived(r: Entry) -> Decision
         ending: 8,
         message: message(5, r.neighbour, r.old, r.new, 0, 0, 0),
         entry: next,
+    }
+}
+
+// A record's own ID.
+fn own(r: Entry) -> u16
+    ensures { λ i. ⌜ i ≡ ownOf r ⌝ }
+{
+    if (1 <= r.state) & (r.state <= 2) {
+        r.old.0
+    } else {
+        r.new.0
+    }
+}
+
+// Whether a number is a record's own ID.
+fn own_is(id: u16, r: Entry) -> bool
+    ensures { λ b. ⌜ b ≡ ownIs id r ⌝ }
+{
+    ((1 <= r.state) & (r.state <= 2) & (r.old.0 == id)) | ((3 <= r.state) & (r.new.0 == id))
+}
+
+// The number after an own ID.
+fn next_after(id: u16) -> u16
+    requires { ⌜ id < 4096 ⌝ }
+    ensures { λ r. ⌜ r ≡ nextAfter id ⌝ }
+{
+    if id == 4095 { 0 } else { id + 1 }
+}
+
+// The sooner of the best so far and a record at a place, if that is due.
+fn better(e: Record, key: [u8; 5], i: usize, r: Entry, best: Best) -> Best
+    ensures { λ b. ⌜ b ≡ betterBy (λ k. getD key k 0) e i r best ⌝ }
+{
+    let mine = own(r);
+    let its = own(best.entry);
+    let sooner = (r.deadline < best.entry.deadline)
+        | ((r.deadline == best.entry.deadline) & (mine < its));
+    if is_about(e, r, key) & (r.deadline <= e.time) & ((best.entry.state == 0) | sooner) {
+        Best { place: i, entry: r }
+    } else {
+        best
+    }
+}
+
+impl Station {
+    // The first record that an event is about.
+    fn find(self, e: Record) -> Found
+        requires { ⌜ (e .kind < 18) × (length (self .entries) ≡ 64) ⌝ }
+        ensures { λ r. ⌜ r ≡ findOf (about e) self ⌝ }
+    {
+        let kind = e.kind as usize;
+        let key = KEYS[kind];
+        for i in 0..64 {
+            let r = self.entries[i];
+            if is_about(e, r, key) {
+                return Found::At(i);
+            }
+        }
+        Found::Nothing
+    }
+
+    // The first free place.
+    fn vacant(self) -> Found
+        requires { ⌜ length (self .entries) ≡ 64 ⌝ }
+        ensures { λ r. ⌜ r ≡ findOf isFree self ⌝ }
+    {
+        for i in 0..64 {
+            let r = self.entries[i];
+            if r.state == 0 {
+                return Found::At(i);
+            }
+        }
+        Found::Nothing
+    }
+
+    // The due record with the least deadline, then the least own ID.
+    fn soonest(self, e: Record) -> Found
+        requires { ⌜ (e .kind < 18) × (length (self .entries) ≡ 64) ⌝ }
+        ensures { λ r. ⌜ r ≡ soonestOf e self ⌝ }
+    {
+        let kind = e.kind as usize;
+        let key = KEYS[kind];
+        let mut best = Best {
+            place: 0,
+            entry: blank(),
+        };
+        for i in 0..64 {
+            best = better(e, key, i, self.entries[i], best);
+        }
+        if best.entry.state == 0 {
+            Found::Nothing
+        } else {
+            Found::At(best.place)
+        }
+    }
+
+    // Whether a number is the own ID of a record.
+    fn uses(self, id: u16) -> bool
+        requires { ⌜ length (self .entries) ≡ 64 ⌝ }
+        ensures { λ r. ⌜ r ≡ anyOf (ownIs id) (self .entries) ⌝ }
+    {
+        for i in 0..64 {
+            if own_is(id, self.entries[i]) {
+                return true;
+            }
+        }
+        false
+    }
+
+    // The own ID to be issued next.
+    fn issue(self) -> u16
+        requires { ⌜ (length (self .entries) ≡ 64) × (self .last < 4096) ⌝ }
+        ensures { λ r. ⌜ (r ≡ issueOf self) × (r < 4096) ⌝ }
+    {
+        let mut id = next_after(self.last);
+        let mut most: usize = 64;
+        while 0 < most {
+            if !self.uses(id) {
+                return id;
+            }
+            id = next_after(id);
+            most -= 1;
+        }
+        id
+    }
+
+    // One record is replaced or ended.
+    fn put(mut self, i: usize, r: Entry) -> Station
+        requires { ⌜ Puts i r self ⌝ }
+        ensures { λ s. ⌜ s ≡ putOf i r self ⌝ }
+    {
+        let before = self.entries[i];
+        self.used = self.used - before.units + r.units;
+        self.entries[i] = r;
+        self
+    }
+
+    // A reply that changes nothing.
+    fn refused(self, reply: u8) -> Answer
+        ensures { λ a. ⌜ a ≡ refusedOf reply self ⌝ }
+    {
+        Answer {
+            outcome: Outcome {
+                reply,
+                ending: 0,
+                count: 0,
+                message: silence(),
+            },
+            station: self,
+        }
+    }
+
+    // A decision about the record at a place is carried out.
+    fn carried(self, i: usize, d: Decision) -> Answer
+        requires { ⌜ Puts i (d .entry) self ⌝ }
+        ensures { λ a. ⌜ a ≡ carriedOf i d self ⌝ }
+    {
+        let r = d.entry;
+        let m = d.message;
+        let next = self.put(i, r);
+        Answer {
+            outcome: Outcome {
+                reply: d.reply,
+                ending: d.ending,
+                count: 0,
+                message: m,
+            },
+            station: next,
+        }
+    }
+
+    // An event about one record.
+    fn about_one(self, e: Record) -> Answer
+        requires { ⌜ (e .kind < 18) × Sound self ⌝ }
+        ensures { λ a. ⌜ a ≡ aboutOne e (findOf (about e) self) self ⌝ }
+    {
+        let found = self.find(e);
+        match found {
+            Found::At(i) => {
+                let r = self.entries[i];
+                let d = decide(e, r, self.clock + self.overall as u64);
+                self.carried(i, d)
+            }
+            Found::Nothing => self.refused(2),
+        }
+    }
+
+    // A tick: the clock, and the soonest record that is due.
+    fn tick(mut self, e: Record) -> Answer
+        requires { ⌜ (e .kind < 18) × Sound self ⌝ }
+        ensures { λ a. ⌜ a ≡ tickOf e self ⌝ }
+    {
+        if e.time < self.clock {
+            return self.refused(8);
+        }
+        let found = self.soonest(e);
+        self.clock = e.time;
+        match found {
+            Found::At(i) => {
+                let r = self.entries[i];
+                self.carried(i, decide(e, r, 0))
+            }
+            Found::Nothing => self.refused(9),
+        }
+    }
+
+    // A start: a preparing record in the first free place.
+    fn start(mut self, e: Record) -> Answer
+        requires { ⌜ Sound self ⌝ }
+        ensures { λ a. ⌜ a ≡ startAt e (findOf isFree self) self ⌝ }
+    {
+        let found = self.vacant();
+        match found {
+            Found::At(i) => {
+                let id = self.issue();
+                self.last = id;
+                self.entries[i] = Entry {
+                    state: 1,
+                    neighbour: e.neighbour,
+                    old: OldId(id),
+                    new: NewId(0),
+                    requested: e.first,
+                    admitted: 0,
+                    status: 0,
+                    units: 0,
+                    deadline: self.clock + self.prep as u64,
+                };
+                Answer {
+                    outcome: Outcome {
+                        reply: 0,
+                        ending: 0,
+                        count: 0,
+                        message: message(1, e.neighbour, OldId(id), NewId(0), e.first, 0, 0),
+                    },
+                    station: self,
+                }
+            }
+            Found::Nothing => self.refused(4),
+        }
     }
 }

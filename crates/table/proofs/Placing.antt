@@ -1,0 +1,44 @@
+-- What a sound station lets a step do at a place of its table.
+use Prim.Native.Nat.{ℕ, _+_, _≤_, _<_}
+use mathlib.Core.Bool.{Bool, true≢false}
+use mathlib.Core.Path.{_≡_}
+use native.Mathlib.Omega.{arith}
+use lib.ListN.{length, getD}
+use Rattle.records.specs.declared.Record.{Record}
+use Rattle.table.specs.declared.Entry.{Entry}
+use Rattle.table.specs.declared.Found.the-variants.{At, Nothing}
+use Rattle.table.specs.declared.Station.{Station}
+use Rattle.table.specs.Events.{decide}
+use Rattle.table.specs.Numbers.{blank, isFree}
+use Rattle.table.specs.Sound.{Sound}
+use Rattle.table.specs.Table.{find, soonest, tally, at, Puts}
+use Rattle.table.proofs.Deciding.{decide-units}
+use Rattle.table.proofs.Finding.{found-at, due-at}
+use Rattle.table.proofs.Tally.{tally-at}
+
+module _ (s : Station) (sound : Sound s) where
+  -- A place that is found is one of the 64.
+  pub found-place : (test : Entry → Bool) (k : ℕ) → find test s ≡ At k → k < 64
+  found-place test k e =
+      let at = found-at test (s .entries) 0 k blank e in
+      omega (arith, at .1, at .2, sound .places)
+
+  pub due-place : (e : Record) (k : ℕ) → soonest e s ≡ At k → k < 64
+  due-place e k found =
+      omega (arith, due-at e (s .entries) (record { place = 0; entry = blank }) 0 k (λ f. absurd (true≢false f)) found, sound .places)
+
+  -- A decision about a record can be carried out.
+  pub decided-puts : (e : Record) (i deadline : ℕ) → i < 64 → Puts i (decide e (getD (s .entries) i blank) deadline .entry) s
+  decided-puts e i deadline h =
+      let units = tally-at (λ r. r .units) (s .entries) i blank (omega (arith, sound .places)) in
+      let fewer = decide-units e (getD (s .entries) i blank) deadline in
+      record {
+        place = h;
+        places = sound .places;
+        back = omega (arith, units, sound .sum);
+        out = omega (arith, units, fewer, sound .sum, sound .capacity);
+      }
+
+-- The clock does not matter to that.
+pub puts-at : {i : ℕ} {r : Entry} {s : Station} (time : ℕ) → Puts i r s → Puts i r (at time s)
+puts-at time p = record { place = p .place; places = p .places; back = p .back; out = p .out }

@@ -1,0 +1,76 @@
+-- What is found from here on is what is found in all.
+use Prim.Native.Nat.{ℕ, _≤_, _<_, _-_, _+_}
+use mathlib.Core.Path.{_≡_, refl, _∙_, sym}
+use native.Mathlib.Omega.{arith}
+use lib.ListN.{length, getD, drop}
+use Rattle.table.specs.Events.{about}
+use Rattle.table.specs.Numbers.{blank}
+use Rattle.table.specs.Table.{find, findFrom}
+use Rattle.table.proofs.Finding.{find-here, find-past, find-end}
+use borrow.Author.Needs.{needs}
+use Rattle.table.proofs.Station.find.Statement.{statement}
+use Rattle.table.proofs.Station.find.Tie as tie
+use Rattle.table.proofs.Station.find.Reads as reads
+use Rattle.table.proofs.Station.find.Lts as lts
+use Rattle.table.proofs.is_about.Reads as is-about-reads
+
+abbrev Inv-loop : tie.InvT-loop
+Inv-loop e self kind key i₀ i = (i ≤ 64) × (findFrom (about e) i (drop i (self .entries)) ≡ find (about e) self)
+
+abbrev μ-loop : tie.MeasureT-loop
+μ-loop e self kind key i₀ i = 64 - i
+
+cast-kind : tie.Need-cast-kind Inv-loop μ-loop
+cast-kind c = search needs
+
+mul-key : tie.Need-mul-key Inv-loop μ-loop
+mul-key c = search needs
+
+array-copy-out-key : tie.Need-array-copy-out-key Inv-loop μ-loop
+array-copy-out-key c = search needs
+
+loop-holds : tie.Need-loop-holds Inv-loop μ-loop
+loop-holds c = (omega arith, refl)
+
+mul-r : tie.Need-mul-r Inv-loop μ-loop
+mul-r c = search needs
+
+element-copy-out-r : tie.Need-element-copy-out-r Inv-loop μ-loop
+element-copy-out-r c = search needs
+
+is-about-requires : tie.Need-is-about-requires Inv-loop μ-loop
+is-about-requires c κs = search needs
+
+returns : tie.Need-returns Inv-loop μ-loop
+returns c = sym (find-here (c .before .before .before .before .before .before .before .args .t1 .entries) (c .before .before .before .before .loop .i) _ (about (c .before .before .before .before .before .before .before .args .e)) (omega (arith, c .before .before .before .before .before .before .before .pre .1)) (sym (c .before .is-about .ensures) ∙ c .if1 .taken)) ∙ c .before .before .before .before .loop .inv .1
+
+add-i : tie.Need-add-i Inv-loop μ-loop
+add-i c = search needs
+
+loop-less : tie.Need-loop-less Inv-loop μ-loop
+loop-less c = search needs
+
+loop-again : tie.Need-loop-again Inv-loop μ-loop
+loop-again c = (omega arith, sym (find-past (c .before .before .before .before .before .before .before .args .t1 .entries) (c .before .before .before .before .loop .i) _ (about (c .before .before .before .before .before .before .before .args .e)) (omega (arith, c .before .before .before .before .before .before .before .pre .1)) (sym (c .before .is-about .ensures) ∙ c .if1 .left)) ∙ c .before .before .before .before .loop .inv .1)
+
+returns-2 : tie.Need-returns-2 Inv-loop μ-loop
+returns-2 c = sym (find-end (c .before .before .before .before .args .t1 .entries) (c .before .loop .i) blank (about (c .before .before .before .before .args .e)) (omega (arith, c .before .before .before .before .pre .1))) ∙ c .before .loop .inv .1
+
+pub find-spec : {M : Type 1} → statement M
+find-spec =
+    tie.close
+    (tie.spec
+    Inv-loop
+    μ-loop
+    cast-kind
+    mul-key
+    array-copy-out-key
+    loop-holds
+    mul-r
+    element-copy-out-r
+    is-about-requires
+    returns
+    add-i
+    loop-less
+    loop-again
+    returns-2)

@@ -1,0 +1,81 @@
+-- What is found is a place of the table, and its decision is carried out there.
+use Prim.Native.Nat.{ℕ, _<_, _+_}
+use mathlib.Core.Path.{_≡_, _∙_, sym, subst}
+use native.Mathlib.Nat.{add-zero}
+use native.Mathlib.Omega.{arith}
+use lib.ListN.{getD}
+use Rattle.table.specs.declared.Decision.{Decision}
+use Rattle.table.specs.declared.Found.the-variants.{At, Nothing}
+use Rattle.table.specs.Events.{about, decide}
+use Rattle.table.specs.Numbers.{isFree, blank}
+use Rattle.table.specs.Step.{aboutOne, tickAt, carried}
+use Rattle.table.specs.Table.{find, soonest, Puts}
+use Rattle.table.proofs.Placing.{found-place, due-place, decided-puts}
+use borrow.Author.Needs.{needs}
+use Rattle.table.proofs.Station.start.Statement.{statement}
+use Rattle.table.proofs.Station.start.Tie as tie
+use Rattle.table.proofs.Station.start.Reads as reads
+use Rattle.table.proofs.Station.start.Lts as lts
+use Rattle.table.proofs.Station.issue.Reads as issue-reads
+use Rattle.table.proofs.Station.refused.Reads as refused-reads
+use Rattle.table.proofs.Station.vacant.Reads as vacant-reads
+use Rattle.table.proofs.message.Reads as message-reads
+
+here : (c : tie.After-known-told) → find isFree (c .before .before .before .before .args .t1) ≡ At (c .before .found .given .0 .0)
+here c = sym (c .before .before .before .vacant .ensures) ∙ c .before .found .given .1
+
+place : (c : tie.After-known-told) → c .before .found .given .0 .0 < 64
+place c = found-place (c .before .before .before .before .args .t1) (c .before .before .before .before .pre) isFree _ (here c)
+
+vacant-requires : tie.Need-vacant-requires
+vacant-requires c κs = search needs
+
+enum-known-found : tie.Need-enum-known-found
+enum-known-found c = search needs
+
+issue-requires : tie.Need-issue-requires
+issue-requires c κs = search needs
+
+cast-t14 : tie.Need-cast-t14
+cast-t14 c = search needs
+
+add-t15 : tie.Need-add-t15
+add-t15 c = search needs
+
+mul-t17 : tie.Need-mul-t17
+mul-t17 c = omega (arith, place (c .before))
+
+element-set-from-self : tie.Need-element-set-from-self
+element-set-from-self c = place (c .before)
+
+message-requires : tie.Need-message-requires
+message-requires c κs = search needs
+
+enum-told : tie.Need-enum-told
+enum-told c = search needs
+
+refused-requires : tie.Need-refused-requires
+refused-requires c κs = search needs
+
+returns : tie.Need-returns
+returns c = rw (here (c .before .before), c .message .ensures, c .before .issue .ensures .0, add-zero (c .before .before .before .before .before .before .args .t1 .used))
+
+returns-2 : tie.Need-returns-2
+returns-2 c = rw (sym (c .before .before .before .vacant .ensures) ∙ c .before .enum-told .given .1) (c .refused .ensures)
+
+pub start-spec : {M : Type 1} → statement M
+start-spec =
+    tie.close
+    (tie.spec
+    vacant-requires
+    enum-known-found
+    issue-requires
+    cast-t14
+    add-t15
+    mul-t17
+    element-set-from-self
+    message-requires
+    enum-told
+    refused-requires
+    returns
+    returns-2)

@@ -1,0 +1,59 @@
+-- What is found from here on is what is found in all.
+use borrow.Author.Tests.{eq-eqb, ne-eqb}
+use Prim.Native.Nat.{ℕ, _≤_, _<_, _-_, _+_}
+use mathlib.Core.Path.{_≡_, refl, _∙_, sym}
+use native.Mathlib.Omega.{arith}
+use lib.ListN.{length, getD, drop}
+use Rattle.table.specs.Numbers.{isFree, blank}
+use Rattle.table.specs.Table.{find, findFrom}
+use Rattle.table.proofs.Finding.{find-here, find-past, find-end}
+use borrow.Author.Needs.{needs}
+use Rattle.table.proofs.Station.vacant.Statement.{statement}
+use Rattle.table.proofs.Station.vacant.Tie as tie
+use Rattle.table.proofs.Station.vacant.Reads as reads
+use Rattle.table.proofs.Station.vacant.Lts as lts
+
+abbrev Inv-loop : tie.InvT-loop
+Inv-loop self i₀ i = (i ≤ 64) × (findFrom isFree i (drop i (self .entries)) ≡ find isFree self)
+
+abbrev μ-loop : tie.MeasureT-loop
+μ-loop self i₀ i = 64 - i
+
+loop-holds : tie.Need-loop-holds Inv-loop μ-loop
+loop-holds c = (omega arith, refl)
+
+mul-r : tie.Need-mul-r Inv-loop μ-loop
+mul-r c = search needs
+
+element-copy-out-r : tie.Need-element-copy-out-r Inv-loop μ-loop
+element-copy-out-r c = search needs
+
+returns : tie.Need-returns Inv-loop μ-loop
+returns c = sym (find-here (c .before .before .before .before .before .args .t1 .entries) (c .before .before .before .before .loop .i) _ isFree (omega (arith, c .before .before .before .before .before .pre)) (eq-eqb _ 0 (c .if1 .taken))) ∙ c .before .before .before .before .loop .inv .1
+
+add-i : tie.Need-add-i Inv-loop μ-loop
+add-i c = search needs
+
+loop-less : tie.Need-loop-less Inv-loop μ-loop
+loop-less c = search needs
+
+loop-again : tie.Need-loop-again Inv-loop μ-loop
+loop-again c = (omega arith, sym (find-past (c .before .before .before .before .before .args .t1 .entries) (c .before .before .before .before .loop .i) _ isFree (omega (arith, c .before .before .before .before .before .pre)) (ne-eqb _ 0 (c .if1 .left))) ∙ c .before .before .before .before .loop .inv .1)
+
+returns-2 : tie.Need-returns-2 Inv-loop μ-loop
+returns-2 c = sym (find-end (c .before .before .args .t1 .entries) (c .before .loop .i) blank isFree (omega (arith, c .before .before .pre))) ∙ c .before .loop .inv .1
+
+pub vacant-spec : {M : Type 1} → statement M
+vacant-spec =
+    tie.close
+    (tie.spec
+    Inv-loop
+    μ-loop
+    loop-holds
+    mul-r
+    element-copy-out-r
+    returns
+    add-i
+    loop-less
+    loop-again
+    returns-2)

@@ -1,0 +1,15 @@
+-- Each arm is that of the test.
+use borrow.Author.Needs.{needs}
+use Rattle.table.proofs.own.Statement.{statement}
+use Rattle.table.proofs.own.Tie as tie
+use Rattle.table.proofs.own.Reads as reads
+use Rattle.table.proofs.own.Lts as lts
+
+returns : tie.Need-returns
+returns c = rw (c .if1 .taken)
+
+returns-2 : tie.Need-returns-2
+returns-2 c = rw (c .if1 .left)
+
+pub own-spec : {M : Type 1} → statement M
+own-spec = tie.close (tie.spec returns returns-2)
