@@ -1,3 +1,4 @@
+pub mod Admitted
 pub mod Granted
 pub mod Judging
 pub mod Listing
