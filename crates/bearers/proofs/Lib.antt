@@ -1,6 +1,7 @@
 pub mod Admitted
 pub mod Granted
 pub mod Judging
+pub mod Laws
 pub mod Listing
 pub mod Looking
 pub mod Membership
