@@ -2,7 +2,7 @@
 use Prim.Native.Nat.{ℕ, suc, _+_, _≤_, _<_}
 use mathlib.Core.Path.{_≡_, refl, _∙_, sym, ap}
 use mathlib.Core.Bool.{Bool, true, false, cond, not, _&&_, _||_}
-use mathlib.Core.List.{List, [], _∷_, map}
+use mathlib.Core.List.{List, [], _∷_, _++_, map}
 use mathlib.Core.Logic.{_↔_}
 use borrow.Author.Tests.{eq-eqb, eqb-false, le-leb, lt-leb, leb-true, leb-false, lt-ltb, le-ltb, ltb-true, ltb-false}
 use native.Mathlib.Omega.{arith}
@@ -16,7 +16,8 @@ use Rattle.bearers.specs.Sets.{member, union, disjoint, setOf}
 use Rattle.bearers.proofs.Admitted.{member-ids, admitted-le}
 use Rattle.bearers.proofs.Granted.{Formed, Distinct, units, fits, once, no-turn, zero-turn, those-repeated, those-distinct}
 use Rattle.bearers.proofs.Membership.{same-members, member-union, disjoint-means, ones-add, ones-none}
-use Rattle.bearers.proofs.Sums.{Each, total-those, those-others, each-those}
+use Rattle.bearers.proofs.Sums.{Each, total-those, those-others, each-those, each-here, each-occurs}
+use Rattle.bearers.proofs.Without.{without-split, others, verdict-without}
 
 -- The number of ones in the set of some bearers' IDs is their number, where no two have one ID.
 ones-ids : (bs : List Bearer) → Each Formed bs → Distinct bs → ones (idsOf bs) ≡ length bs
@@ -128,3 +129,13 @@ module _ (gbr : ℕ → Bool) (free : ℕ) (bs : List Bearer) where
           (λ u. (t, leb-true (b .units) (freeAt (turns gbr bs) (b .id) free) u))
           (λ u. absurd (omega (arith, rw u at (with-turn b t)))))
           (λ t. absurd (omega (arith, without-turn b t)))
+
+-- The next is tried after a bearer that does not fit: each other has the verdict that it has in the request without that one.
+pub passed-over : (gbr : ℕ → Bool) (free : ℕ) (before : List Bearer) (b : Bearer) (later : List Bearer) → Each Formed (before ++ b ∷ later) → verdict gbr free (before ++ b ∷ later) b ≡ 4 → Each (λ c. verdict gbr free (before ++ later) c ≡ verdict gbr free (before ++ b ∷ later) c) (before ++ later)
+passed-over gbr free before b later each e =
+    let bs = before ++ b ∷ later in
+    let rest = before ++ later in
+    let w = without-split b before later in
+    let four : (hasTurn gbr bs b ≡ true) × (freeAt (turns gbr bs) (b .id) free < b .units) = verdict-four gbr free bs b .0 e in
+    each-occurs _ rest
+    (λ c h. verdict-without gbr b bs rest w (four .0) free (each-here Formed before b later each .1) (four .1) c (others gbr b bs rest w (four .0) c h))

@@ -7,4 +7,5 @@ pub mod Looking
 pub mod Membership
 pub mod Sums
 pub mod Turns
+pub mod Without
 pub mod Writing

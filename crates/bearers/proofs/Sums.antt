@@ -145,14 +145,14 @@ unfolding those
 each-those P test [] each = tt
 each-those P test (b ∷ bs) each = by-cases (test b) (λ t. rw t (each .0, each-those P test bs (each .1))) (λ t. rw t (each-those P test bs (each .1)))
 
--- Two tests that agree on the IDs of a list pick the same bearers of it.
+-- What holds of a bearer whose ID occurs in a list holds of each bearer of it; so two tests that agree there pick the same.
+pub each-occurs : (P : Bearer → Type 0) (bs : List Bearer) → ((b : Bearer) → 0 < occurs (b .id) bs → P b) → Each P bs
+unfolding total
+each-occurs P [] holds = tt
+each-occurs P (b ∷ bs) holds = (holds b (rw (eq-eqb (b .id) (b .id) refl) (omega arith)), each-occurs P bs (λ x h. holds x (omega arith)))
+
 pub those-same : (p q : Bearer → Bool) (bs : List Bearer) → ((b : Bearer) → 0 < occurs (b .id) bs → p b ≡ q b) → those p bs ≡ those q bs
-unfolding those total
-those-same p q [] same = refl
-those-same p q (b ∷ bs) same =
-    let first : p b ≡ q b = same b (rw (eq-eqb (b .id) (b .id) refl) (omega arith)) in
-    let others = those-same p q bs (λ x h. same x (omega arith)) in
-    rw (first, others)
+those-same p q bs same = those-each p q bs (each-occurs _ bs same)
 
 -- Those of two lists are those of the one and those of the other.
 pub those-append : (test : Bearer → Bool) (xs ys : List Bearer) → those test (xs ++ ys) ≡ those test xs ++ those test ys
