@@ -9,7 +9,7 @@ use native.Mathlib.Omega.{arith}
 use lib.Dec.{ltb, eqb}
 use Rattle.laws.proofs.Tests.{by-cases}
 use Rattle.bearers.specs.declared.Bearer.{Bearer}
-use Rattle.bearers.specs.Admission.{total, occurs, hasTurn, turns, verdict, admitted, idsOf}
+use Rattle.bearers.specs.Admission.{total, occurs, standing, hasTurn, turns, verdict, admitted, idsOf}
 use Rattle.bearers.specs.Sets.{member, among}
 use Rattle.bearers.proofs.Granted.{Formed, units, granted, granted-le, granted-total, zero-means, turn-once, fits, once}
 use Rattle.bearers.proofs.Membership.{same-members, member-setOf}
@@ -41,7 +41,7 @@ module _ (gbr : ℕ → Bool) (free : ℕ) (bs : List Bearer) (each : Each Forme
   admitted-le = omega (arith, granted-le (turns gbr bs) free, granted-total gbr free bs each units)
 
   -- Of the bearers with its ID only the bearer itself, where it has a turn, can have verdict 0.
-  pub admitted-once : (before : List Bearer) (b : Bearer) (later : List Bearer) → bs ≡ before ++ b ∷ later → hasTurn gbr bs b ≡ true → occurs (b .id) (admitted gbr free bs) ≡ cond (fits (turns gbr bs) free b) 1 0
+  admitted-once : (before : List Bearer) (b : Bearer) (later : List Bearer) → bs ≡ before ++ b ∷ later → hasTurn gbr bs b ≡ true → occurs (b .id) (admitted gbr free bs) ≡ cond (fits (turns gbr bs) free b) 1 0
   admitted-once before b later e t =
       let counted : Bearer → ℕ = λ x. cond (eqb (verdict gbr free bs x) 0) (once (b .id) x) 0 in
       let le : (x : Bearer) → counted x ≤ once (b .id) x = λ x. by-cases (eqb (verdict gbr free bs x) 0) (λ u. rw u (omega arith)) (λ u. rw u (omega arith)) in
@@ -60,8 +60,13 @@ module _ (gbr : ℕ → Bool) (free : ℕ) (bs : List Bearer) (each : Each Forme
       )
 
   -- A bearer that has a turn is in the admitted set exactly if it fits.
-  pub admitted-fits : (before : List Bearer) (b : Bearer) (later : List Bearer) → bs ≡ before ++ b ∷ later → hasTurn gbr bs b ≡ true → member (idsOf (admitted gbr free bs)) (b .id) ≡ fits (turns gbr bs) free b
+  admitted-fits : (before : List Bearer) (b : Bearer) (later : List Bearer) → bs ≡ before ++ b ∷ later → hasTurn gbr bs b ≡ true → member (idsOf (admitted gbr free bs)) (b .id) ≡ fits (turns gbr bs) free b
   admitted-fits before b later e t =
       let formed : Formed b = each-here Formed before b later (subst (Each Formed) e each) in
       rw (member-ids (b .id) (admitted gbr free bs), lt-ltb (b .id) 16 (formed .0), admitted-once before b later e t)
       (by-cases (fits (turns gbr bs) free b) (λ u. rw u) (λ u. rw u))
+
+  -- So its verdict can be told by the admitted set.
+  pub verdict-member : (before : List Bearer) (b : Bearer) (later : List Bearer) → bs ≡ before ++ b ∷ later → verdict gbr free bs b ≡ cond (hasTurn gbr bs b) (cond (member (idsOf (admitted gbr free bs)) (b .id)) 0 4) (standing gbr (occurs (b .id) bs) b)
+  unfolding verdict
+  verdict-member before b later e = by-cases (hasTurn gbr bs b) (λ t. rw (t, admitted-fits before b later e t)) (λ t. rw t)

@@ -1,6 +1,6 @@
 -- What the code leaves is what admission says: the admitted set, and each verdict by it.
 use Prim.Native.Nat.{ℕ, _-_, _<_}
-use mathlib.Core.Path.{_≡_, _∙_, ap, subst}
+use mathlib.Core.Path.{_≡_, _∙_, sym, ap, subst}
 use mathlib.Core.Bool.{true, not}
 use mathlib.Core.List.{List, [], _∷_, map}
 use native.Mathlib.Omega.{arith}
@@ -8,7 +8,7 @@ use lib.Bits.{or-zero-l}
 use lib.Dec.{eqb}
 use lib.ListN.{getD, length-take}
 use lib.Seq.{getD-take}
-use Rattle.laws.proofs.Tests.{by-cases, both-true}
+use Rattle.laws.proofs.Tests.{both-true}
 use Rattle.records.specs.declared.Record.{Record}
 use Rattle.bearers.specs.declared.Bearer.{Bearer}
 use Rattle.bearers.specs.declared.Survey.{Survey}
@@ -16,7 +16,7 @@ use Rattle.bearers.specs.Admission.{total, those, hasTurn, release8, tur
 use Rattle.bearers.specs.Bearer.{isBearer, bearerOf, allBearers}
 use Rattle.bearers.proofs.Listing.{formed}
 use Rattle.bearers.specs.Working.{Surveyed, firstsOf, clear, run, settledBy, refusedBy}
-use Rattle.bearers.proofs.Admitted.{granted-ids, admitted-fits}
+use Rattle.bearers.proofs.Admitted.{granted-ids, verdict-member}
 use Rattle.bearers.proofs.Granted.{Formed, units, grants, granted, run-granted, granted-total}
 use Rattle.bearers.proofs.Sums.{Each, each-split, each-place, each-here, each-map, map-each, those-each}
 
@@ -41,15 +41,11 @@ module _ (free : ℕ) (bs : List Bearer) (each : Each Formed bs) (s : Survey) (k
 
   -- The verdict by the table and the admitted set is the verdict.
   settled-each : Each (λ b. settledBy s (idsOf (admitted release8 free bs)) b ≡ verdict release8 free bs b) bs
-  unfolding verdict
   settled-each =
       each-split _ bs
       (λ before b later e.
       let formed : Formed b = each-here Formed before b later (subst (Each Formed) e each) in
-      rw (known .counted (b .id) (formed .0))
-      (by-cases (hasTurn release8 bs b)
-      (λ t. rw (t, admitted-fits release8 free bs each before b later e t))
-      (λ t. rw t)))
+      rw (known .counted (b .id) (formed .0)) (sym (verdict-member release8 free bs each before b later e)))
 
   pub settled-verdicts : map (settledBy s (idsOf (admitted release8 free bs))) bs ≡ map (verdict release8 free bs) bs
   settled-verdicts = map-each _ _ bs settled-each

@@ -11,12 +11,13 @@ use lib.Dec.{ltb, eqb}
 use lib.ListN.{length, length-map}
 use Rattle.laws.proofs.Tests.{by-cases, both-true}
 use Rattle.bearers.specs.declared.Bearer.{Bearer}
-use Rattle.bearers.specs.Admission.{total, occurs, standing, hasTurn, turns, freeAt, verdict, admitted, refused, idsOf}
+use Rattle.bearers.specs.Admission.{total, those, occurs, standing, hasTurn, turns, freeAt, verdict, admitted, refused, idsOf}
 use Rattle.bearers.specs.Sets.{member, union, disjoint, setOf}
-use Rattle.bearers.proofs.Admitted.{member-ids, admitted-le}
-use Rattle.bearers.proofs.Granted.{Formed, Distinct, units, fits, once, no-turn, zero-turn, those-repeated, those-distinct}
+use Rattle.bearers.proofs.Admitted.{member-ids, admitted-le, granted-ids, verdict-member}
+use Rattle.bearers.proofs.Granted.{Formed, Distinct, units, fits, once, granted, turn-once, no-turn, zero-turn, those-repeated, those-distinct}
 use Rattle.bearers.proofs.Membership.{same-members, member-union, disjoint-means, ones-add, ones-none}
-use Rattle.bearers.proofs.Sums.{Each, total-those, those-others, each-those, each-here, each-occurs}
+use Rattle.bearers.proofs.Sorting.{sorted, turns-sorted}
+use Rattle.bearers.proofs.Sums.{Each, total-those, those-others, each-those, each-here, each-split, each-occurs}
 use Rattle.bearers.proofs.Without.{without-split, others, verdict-without}
 
 -- The number of ones in the set of some bearers' IDs is their number, where no two have one ID.
@@ -104,7 +105,7 @@ module _ (gbr : ℕ → Bool) (free : ℕ) (bs : List Bearer) where
   pub count-ones : Each Formed bs → ones (idsOf (admitted gbr free bs)) ≡ length (admitted gbr free bs)
   count-ones each =
       let accepted : Bearer → Bool = λ b. eqb (verdict gbr free bs b) 0 in
-      ones-ids (admitted gbr free bs) (each-those Formed accepted bs each) (those-distinct gbr bs accepted (zero-turn gbr free bs))
+      ones-ids (admitted gbr free bs) (each-those Formed Formed accepted bs (λ b formed t. formed) each) (those-distinct gbr bs accepted (zero-turn gbr free bs))
 
   -- Verdict 4 is that of a bearer that has a turn, at which fewer units are free than it needs.
   pub verdict-four : (b : Bearer) → (verdict gbr free bs b ≡ 4) ↔ ((hasTurn gbr bs b ≡ true) × (freeAt (turns gbr bs) (b .id) free < b .units))
@@ -139,3 +140,15 @@ passed-over gbr free before b later each e =
     let four : (hasTurn gbr bs b ≡ true) × (freeAt (turns gbr bs) (b .id) free < b .units) = verdict-four gbr free bs b .0 e in
     each-occurs _ rest
     (λ c h. verdict-without gbr b bs rest w (four .0) free (each-here Formed before b later each .1) (four .1) c (others gbr b bs rest w (four .0) c h))
+
+-- The same another way, for bearers with IDs and priorities up to 15.
+module _ (gbr : ℕ → Bool) (free : ℕ) (bs : List Bearer) (each : Each Formed bs) where
+  -- The turns are the bearers that have one, sorted by priority, those of one priority in their order.
+  pub priority-first : turns gbr bs ≡ sorted (those (hasTurn gbr bs) bs)
+  priority-first =
+      turns-sorted 15 1 (those (hasTurn gbr bs) bs)
+      (each-those Formed _ (hasTurn gbr bs) bs (λ b formed t. (turn-once gbr bs b t .1, omega arith)) each)
+
+  -- And one walk through them, each taking its units if so many are left, gives the verdicts.
+  pub one-walk : Each (λ b. verdict gbr free bs b ≡ cond (hasTurn gbr bs b) (cond (member (idsOf (granted (sorted (those (hasTurn gbr bs) bs)) free)) (b .id)) 0 4) (standing gbr (occurs (b .id) bs) b)) bs
+  one-walk = each-split _ bs (λ before b later e. rw (← priority-first, granted-ids gbr free bs each) (verdict-member gbr free bs each before b later e))

@@ -5,6 +5,7 @@ pub mod Laws
 pub mod Listing
 pub mod Looking
 pub mod Membership
+pub mod Sorting
 pub mod Sums
 pub mod Turns
 pub mod Without

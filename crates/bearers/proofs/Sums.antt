@@ -1,7 +1,7 @@
 -- Sums over bearers, and the lists that they are taken of.
 use Prim.Native.Nat.{ℕ, zero, suc, _+_, _≤_, _<_}
 use mathlib.Core.Path.{_≡_, refl, _∙_, sym, ap₂}
-use mathlib.Core.Bool.{Bool, cond, not, _&&_}
+use mathlib.Core.Bool.{Bool, true, cond, not, _&&_}
 use mathlib.Core.List.{List, [], _∷_, _++_, map}
 use borrow.Author.Tests.{eq-eqb, eqb-true, eqb-false, le-leb, lt-leb, lt-ltb, le-ltb, leb-true, leb-false}
 use native.Mathlib.Omega.{arith}
@@ -139,11 +139,19 @@ unfolding those
 those-each p q [] same = refl
 those-each p q (b ∷ bs) same = rw (same .0, those-each p q bs (same .1))
 
--- What holds of each bearer holds of each of those that pass a test.
-pub each-those : (P : Bearer → Type 0) (test : Bearer → Bool) (bs : List Bearer) → Each P bs → Each P (those test bs)
+-- What follows for a bearer that passes a test holds of each of those that pass it.
+pub each-those : (P Q : Bearer → Type 0) (test : Bearer → Bool) (bs : List Bearer) → ((b : Bearer) → P b → test b ≡ true → Q b) → Each P bs → Each Q (those test bs)
 unfolding those
-each-those P test [] each = tt
-each-those P test (b ∷ bs) each = by-cases (test b) (λ t. rw t (each .0, each-those P test bs (each .1))) (λ t. rw t (each-those P test bs (each .1)))
+each-those P Q test [] f each = tt
+each-those P Q test (b ∷ bs) f each =
+    by-cases (test b)
+    (λ t. rw t (f b (each .0) t, each-those P Q test bs f (each .1)))
+    (λ t. rw t (each-those P Q test bs f (each .1)))
+
+-- What holds of each bearer of two lists holds of each of both together.
+pub each-append : (P : Bearer → Type 0) (xs ys : List Bearer) → Each P xs → Each P ys → Each P (xs ++ ys)
+each-append P [] ys left right = right
+each-append P (x ∷ xs) ys left right = (left .0, each-append P xs ys (left .1) right)
 
 -- What holds of a bearer whose ID occurs in a list holds of each bearer of it; so two tests that agree there pick the same.
 pub each-occurs : (P : Bearer → Type 0) (bs : List Bearer) → ((b : Bearer) → 0 < occurs (b .id) bs → P b) → Each P bs

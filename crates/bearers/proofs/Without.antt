@@ -57,7 +57,7 @@ those-unchanged test t (there {x} w) = rw (those-unchanged test t w)
 -- ---- turns
 
 -- The turns of higher priorities are unchanged, and of the turns of all only that bearer's is missing.
-turns-unchanged : {b : Bearer} {xs ys : List Bearer} (n p : ℕ) → b .priority < p → Without b xs ys → turnsFrom n p xs ≡ turnsFrom n p ys
+pub turns-unchanged : {b : Bearer} {xs ys : List Bearer} (n p : ℕ) → b .priority < p → Without b xs ys → turnsFrom n p xs ≡ turnsFrom n p ys
 unfolding turnsFrom
 turns-unchanged zero p h w = refl
 turns-unchanged {b} (suc n) p h w =
