@@ -1,21 +1,19 @@
 -- Who gets units when the turns are taken one after the other: those that fit at their turn.
-use Prim.Native.Nat.{ℕ, zero, suc, _+_, _-_, _≤_, _<_}
-use mathlib.Core.Path.{_≡_, refl, _∙_, sym, ap, ap₂}
-use mathlib.Core.Bool.{Bool, true, false, cond, not, _&&_, _||_, true≢false}
-use mathlib.Core.List.{List, [], _∷_, _++_, map}
-use borrow.Author.Tests.{eq-eqb, ne-eqb, eqb-true, eqb-false, le-leb, lt-leb, lt-ltb, le-ltb, leb-true, leb-false, ltb-true, ltb-false}
+use Prim.Native.Nat.{ℕ, _+_, _-_, _≤_, _<_}
+use mathlib.Core.Path.{_≡_, refl, _∙_, sym, ap}
+use mathlib.Core.Bool.{Bool, true, false, cond, _&&_, true≢false}
+use mathlib.Core.List.{List, [], _∷_}
+use borrow.Author.Tests.{eq-eqb, ne-eqb, eqb-true, eqb-false, le-leb, lt-ltb, leb-true, ltb-true, ltb-false}
 use native.Mathlib.Omega.{arith}
 use lib.Bits.{or-zero-r}
 use lib.Dec.{leb, ltb, eqb}
-use lib.ListN.{length}
-use Rattle.laws.proofs.Tests.{by-cases}
+use Rattle.laws.proofs.Tests.{by-cases, both-true}
 use Rattle.bearers.specs.declared.Bearer.{Bearer}
 use Rattle.bearers.specs.declared.Grants.{Grants}
-use Rattle.bearers.specs.Admission.{total, those, occurs, standing, hasTurn, turnsFrom, turns, after, freeAt, verdict, admitted, refused, idsOf}
-use Rattle.bearers.specs.Sets.{member, add, union, setOf, among}
-use Rattle.bearers.specs.Working.{run, turnOf}
-use Rattle.bearers.proofs.Membership.{same-members, member-setOf}
-use Rattle.bearers.proofs.Sums.{Each, total-same, total-equal, total-le, total-those, total-turns, total-none, within}
+use Rattle.bearers.specs.Admission.{total, those, occurs, hasTurn, turns, after, freeAt, verdict, admitted, idsOf}
+use Rattle.bearers.specs.Sets.{add, union, setOf}
+use Rattle.bearers.specs.Working.{run}
+use Rattle.bearers.proofs.Sums.{Each, total-same, total-equal, total-those, those-le, those-same, total-turns, total-none, within}
 use Rattle.bearers.proofs.Writing.{union-slide}
 
 -- ---- the walk
@@ -30,7 +28,7 @@ units b = b .units
 
 -- They get no more than is free.
 pub granted-le : (ts : List Bearer) (free : ℕ) → total units (granted ts free) ≤ free
-unfolding granted total units
+unfolding granted total
 granted-le [] free = omega arith
 granted-le (t ∷ ts) free =
     by-cases (leb (t .units) free)
@@ -45,7 +43,7 @@ same-grants : {a b x y : ℕ} → a ≡ b → x ≡ y → grants a x ≡ grants 
 same-grants p q = λ i. record { admitted = p i; free = q i }
 
 pub run-granted : (ts : List Bearer) (set free : ℕ) → run ts (grants set free) ≡ grants (union set (idsOf (granted ts free))) (free - total units (granted ts free))
-unfolding run granted total units setOf
+unfolding run granted total setOf
 run-granted [] set free = same-grants (sym (or-zero-r set)) (omega arith)
 run-granted (t ∷ ts) set free =
     by-cases (leb (t .units) free)
@@ -58,15 +56,6 @@ run-granted (t ∷ ts) set free =
 
 -- ---- those that fit at their turn
 
--- Two tests that agree on the IDs of a list pick the same bearers of it.
-those-same : (p q : Bearer → Bool) (bs : List Bearer) → ((b : Bearer) → 0 < occurs (b .id) bs → p b ≡ q b) → those p bs ≡ those q bs
-unfolding those total
-those-same p q [] same = refl
-those-same p q (b ∷ bs) same =
-    let first : p b ≡ q b = same b (rw (eq-eqb (b .id) (b .id) refl) (omega arith)) in
-    let others = those-same p q bs (λ x h. same x (omega arith)) in
-    rw (first, others)
-
 -- A list in which no ID occurs twice.
 abbrev pub Distinct : List Bearer → Type 0
 Distinct bs = (k : ℕ) → occurs k bs ≤ 1
@@ -76,7 +65,7 @@ fits ts free b = leb (b .units) (freeAt ts (b .id) free)
 
 -- At the turns after the first, what is free is what the first has left.
 fits-after : (t : Bearer) (ts : List Bearer) (free : ℕ) → Distinct (t ∷ ts) → those (fits (t ∷ ts) free) ts ≡ those (fits ts (after free t)) ts
-unfolding fits freeAt total
+unfolding freeAt total
 fits-after t ts free distinct =
     those-same (fits (t ∷ ts) free) (fits ts (after free t)) ts
     (λ b h.
@@ -90,7 +79,7 @@ fits-after t ts free distinct =
         omega arith
 
 granted-those : (ts : List Bearer) (free : ℕ) → Distinct ts → granted ts free ≡ those (fits ts free) ts
-unfolding granted those fits freeAt total
+unfolding granted those freeAt total
 granted-those [] free distinct = refl
 granted-those (t ∷ ts) free distinct =
     let rest : Distinct ts = λ k. omega (arith, distinct k) in
@@ -107,7 +96,15 @@ granted-those (t ∷ ts) free distinct =
 abbrev pub Formed : Bearer → Type 0
 Formed b = (b .id < 16) × (b .priority ≤ 15)
 
-module _ (gbr : ℕ → Bool) (free : ℕ) (bs : List Bearer) where
+-- what a bearer counts among those with an ID
+abbrev pub once : ℕ → Bearer → ℕ
+once k b = cond (eqb (b .id) k) 1 0
+
+module _ (gbr : ℕ → Bool) (bs : List Bearer) where
+  -- A bearer whose ID occurs more than once has no turn.
+  pub no-turn : (b : Bearer) → 1 < occurs (b .id) bs → hasTurn gbr bs b ≡ false
+  no-turn b h = rw (lt-ltb 1 (occurs (b .id) bs) h)
+
   -- A bearer that has a turn occurs once, and has a priority.
   pub turn-once : (b : Bearer) → hasTurn gbr bs b ≡ true → (occurs (b .id) bs ≤ 1) × (1 ≤ b .priority)
   turn-once b t =
@@ -118,36 +115,52 @@ module _ (gbr : ℕ → Bool) (free : ℕ) (bs : List Bearer) where
       (λ v. absurd (true≢false (sym t ∙ rw (u, v))))
       (λ v. (ltb-false 1 (occurs (b .id) bs) u, omega (arith, eqb-false (b .priority) 0 v))))
 
+  module _ (test : Bearer → Bool) (turn : (b : Bearer) → test b ≡ true → hasTurn gbr bs b ≡ true) where
+    -- Of bearers that have a turn none has an ID that occurs more than once in the request.
+    pub those-repeated : (k : ℕ) → 1 < occurs k bs → occurs k (those test bs) ≡ 0
+    those-repeated k h =
+        total-those (once k) test bs ∙ total-equal (λ b. cond (test b) (once k b) 0) (λ b. 0) bs none ∙ total-none bs
+      where
+        none : (b : Bearer) → cond (test b) (once k b) 0 ≡ 0
+        none b =
+            by-cases (test b)
+            (λ t.
+            by-cases (eqb (b .id) k)
+            (λ u. let same : b .id ≡ k = eqb-true (b .id) k u in absurd (true≢false (sym (turn b t) ∙ no-turn b (rw same h))))
+            (λ u. rw (t, u)))
+            (λ t. rw t)
+
+    -- So no two of them have one ID.
+    pub those-distinct : Distinct (those test bs)
+    those-distinct k =
+        by-cases (ltb 1 (occurs k bs))
+        (λ t. omega (arith, those-repeated k (ltb-true 1 (occurs k bs) t)))
+        (λ t. omega (arith, ltb-false 1 (occurs k bs) t, those-le (once k) test bs))
+
+  -- No ID has two turns.
+  pub turns-distinct : Distinct (turns gbr bs)
+  turns-distinct k =
+      let all = those (hasTurn gbr bs) bs in
+      omega (arith, total-turns (once k) 15 1 all, total-those (once k) (within 1 15) all, those-le (once k) (within 1 15) all, those-distinct (hasTurn gbr bs) (λ b t. t) k)
+
+module _ (gbr : ℕ → Bool) (free : ℕ) (bs : List Bearer) where
   -- Verdict 0 is a turn at which the units fit.
   pub zero-means : (b : Bearer) → eqb (verdict gbr free bs b) 0 ≡ (hasTurn gbr bs b && fits (turns gbr bs) free b)
-  unfolding verdict fits
+  unfolding verdict
   zero-means b =
       by-cases (hasTurn gbr bs b)
       (λ t. rw t (by-cases (leb (b .units) (freeAt (turns gbr bs) (b .id) free)) (λ u. rw u) (λ u. rw u)))
       (λ t. rw t t)
 
-  -- No ID has two turns.
-  turns-distinct : Distinct (turns gbr bs)
-  turns-distinct k =
-      let once : Bearer → ℕ = λ b. cond (eqb (b .id) k) 1 0 in
-      let all : occurs k (turns gbr bs) ≤ total (λ b. cond (hasTurn gbr bs b) (once b) 0) bs =
-      rw (total-turns once 15 1 (those (hasTurn gbr bs) bs), ← total-those once (hasTurn gbr bs) bs)
-      (total-le _ once (those (hasTurn gbr bs) bs) (λ b. by-cases (within 1 15 b) (λ t. rw t (omega arith)) (λ t. rw t (omega arith)))) in
-      by-cases (ltb 1 (occurs k bs))
-      (λ t.
-      let none : (b : Bearer) → cond (hasTurn gbr bs b) (once b) 0 ≡ 0 =
-      λ b. by-cases (eqb (b .id) k)
-      (λ u. rw (eqb-true (b .id) k u, t))
-      (λ u. rw u (by-cases (hasTurn gbr bs b) (λ v. rw v) (λ v. rw v))) in
-      omega (arith, total-equal (λ b. cond (hasTurn gbr bs b) (once b) 0) (λ b. 0) bs none, total-none bs))
-      (λ t. omega (arith, ltb-false 1 (occurs k bs) t, total-le (λ b. cond (hasTurn gbr bs b) (once b) 0) once bs (λ b. by-cases (hasTurn gbr bs b) (λ u. rw u (omega arith)) (λ u. rw u (omega arith)))))
+  pub zero-turn : (b : Bearer) → eqb (verdict gbr free bs b) 0 ≡ true → hasTurn gbr bs b ≡ true
+  zero-turn b t = both-true (hasTurn gbr bs b) (fits (turns gbr bs) free b) (sym (zero-means b) ∙ t) .0
 
   -- A number summed over who got units is that number summed over who has verdict 0.
   pub granted-total : Each Formed bs → (f : Bearer → ℕ) → total f (granted (turns gbr bs) free) ≡ total f (admitted gbr free bs)
   granted-total each f =
       let ts = turns gbr bs in
       let got : Bearer → ℕ = λ b. cond (fits ts free b) (f b) 0 in
-      ap (total f) (granted-those ts free turns-distinct)
+      ap (total f) (granted-those ts free (turns-distinct gbr bs))
       ∙ total-those f (fits ts free) ts
       ∙ total-turns got 15 1 (those (hasTurn gbr bs) bs)
       ∙ total-those (λ b. cond (within 1 15 b) (got b) 0) (hasTurn gbr bs) bs
@@ -158,5 +171,5 @@ module _ (gbr : ℕ → Bool) (free : ℕ) (bs : List Bearer) where
       same b formed =
           rw (zero-means b)
           (by-cases (hasTurn gbr bs b)
-          (λ t. rw (t, le-leb 1 (b .priority) (turn-once b t .1), lt-ltb (b .priority) 16 (omega arith)))
+          (λ t. rw (t, le-leb 1 (b .priority) (turn-once gbr bs b t .1), lt-ltb (b .priority) 16 (omega arith)))
           (λ t. rw t))

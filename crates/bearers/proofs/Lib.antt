@@ -1,8 +1,12 @@
+pub mod Admitted
 pub mod Granted
 pub mod Judging
+pub mod Laws
 pub mod Listing
 pub mod Looking
 pub mod Membership
+pub mod Sorting
 pub mod Sums
 pub mod Turns
+pub mod Without
 pub mod Writing

@@ -1,9 +1,9 @@
 -- Sums over bearers, and the lists that they are taken of.
 use Prim.Native.Nat.{ℕ, zero, suc, _+_, _≤_, _<_}
-use mathlib.Core.Path.{_≡_, refl, _∙_, sym, ap, ap₂}
-use mathlib.Core.Bool.{Bool, true, false, cond, _&&_}
+use mathlib.Core.Path.{_≡_, refl, _∙_, sym, ap₂}
+use mathlib.Core.Bool.{Bool, true, cond, not, _&&_}
 use mathlib.Core.List.{List, [], _∷_, _++_, map}
-use borrow.Author.Tests.{eq-eqb, ne-eqb, eqb-true, eqb-false, le-leb, lt-leb, lt-ltb, le-ltb, leb-true, leb-false}
+use borrow.Author.Tests.{eq-eqb, eqb-true, eqb-false, le-leb, lt-leb, lt-ltb, le-ltb, leb-true, leb-false}
 use native.Mathlib.Omega.{arith}
 use lib.Dec.{leb, ltb, eqb}
 use lib.ListN.{length, getD}
@@ -41,6 +41,11 @@ unfolding total
 total-append f [] ys = omega arith
 total-append f (x ∷ xs) ys = omega (arith, total-append f xs ys)
 
+-- That before a bearer, the bearer's own and that after it.
+pub total-split : (f : Bearer → ℕ) (before : List Bearer) (b : Bearer) (later : List Bearer) → total f (before ++ b ∷ later) ≡ total f before + (f b + total f later)
+unfolding total
+total-split f before b later = total-append f before (b ∷ later)
+
 pub total-add : (f g : Bearer → ℕ) (bs : List Bearer) → total (λ b. f b + g b) bs ≡ total f bs + total g bs
 unfolding total
 total-add f g [] = refl
@@ -55,6 +60,17 @@ pub total-those : (f : Bearer → ℕ) (test : Bearer → Bool) (bs : List Beare
 unfolding total those
 total-those f test [] = refl
 total-those f test (b ∷ bs) = by-cases (test b) (λ t. rw t (omega (arith, total-those f test bs))) (λ t. rw t (omega (arith, total-those f test bs)))
+
+-- So it is at most the sum of all, and what is missing is the sum of those that fail the test.
+pub those-le : (f : Bearer → ℕ) (test : Bearer → Bool) (bs : List Bearer) → total f (those test bs) ≤ total f bs
+those-le f test bs =
+    rw (total-those f test bs)
+    (total-le (λ b. cond (test b) (f b) 0) f bs (λ b. by-cases (test b) (λ t. rw t (omega arith)) (λ t. rw t (omega arith))))
+
+pub those-others : (f : Bearer → ℕ) (test : Bearer → Bool) (bs : List Bearer) → total f (those test bs) + total f (those (λ b. not (test b)) bs) ≡ total f bs
+unfolding total those
+those-others f test [] = refl
+those-others f test (b ∷ bs) = by-cases (test b) (λ t. rw t (omega (arith, those-others f test bs))) (λ t. rw t (omega (arith, those-others f test bs)))
 
 -- The sum over the turns of some priorities is that over the bearers with such a priority.
 abbrev pub within : ℕ → ℕ → Bearer → Bool
@@ -122,3 +138,32 @@ pub those-each : (p q : Bearer → Bool) (bs : List Bearer) → Each (λ b. p b 
 unfolding those
 those-each p q [] same = refl
 those-each p q (b ∷ bs) same = rw (same .0, those-each p q bs (same .1))
+
+-- What follows for a bearer that passes a test holds of each of those that pass it.
+pub each-those : (P Q : Bearer → Type 0) (test : Bearer → Bool) (bs : List Bearer) → ((b : Bearer) → P b → test b ≡ true → Q b) → Each P bs → Each Q (those test bs)
+unfolding those
+each-those P Q test [] f each = tt
+each-those P Q test (b ∷ bs) f each =
+    by-cases (test b)
+    (λ t. rw t (f b (each .0) t, each-those P Q test bs f (each .1)))
+    (λ t. rw t (each-those P Q test bs f (each .1)))
+
+-- What holds of each bearer of two lists holds of each of both together.
+pub each-append : (P : Bearer → Type 0) (xs ys : List Bearer) → Each P xs → Each P ys → Each P (xs ++ ys)
+each-append P [] ys left right = right
+each-append P (x ∷ xs) ys left right = (left .0, each-append P xs ys (left .1) right)
+
+-- What holds of a bearer whose ID occurs in a list holds of each bearer of it; so two tests that agree there pick the same.
+pub each-occurs : (P : Bearer → Type 0) (bs : List Bearer) → ((b : Bearer) → 0 < occurs (b .id) bs → P b) → Each P bs
+unfolding total
+each-occurs P [] holds = tt
+each-occurs P (b ∷ bs) holds = (holds b (rw (eq-eqb (b .id) (b .id) refl) (omega arith)), each-occurs P bs (λ x h. holds x (omega arith)))
+
+pub those-same : (p q : Bearer → Bool) (bs : List Bearer) → ((b : Bearer) → 0 < occurs (b .id) bs → p b ≡ q b) → those p bs ≡ those q bs
+those-same p q bs same = those-each p q bs (each-occurs _ bs same)
+
+-- Those of two lists are those of the one and those of the other.
+pub those-append : (test : Bearer → Bool) (xs ys : List Bearer) → those test (xs ++ ys) ≡ those test xs ++ those test ys
+unfolding those
+those-append test [] ys = refl
+those-append test (x ∷ xs) ys = by-cases (test x) (λ t. rw (t, those-append test xs ys)) (λ t. rw (t, those-append test xs ys))
