@@ -4,3 +4,4 @@ pub mod Events
 pub mod Table
 pub mod Sound
 pub mod Step
+pub mod Reached

@@ -1,13 +1,12 @@
 -- Every step takes the station and hands the next station back.
-use Prim.Native.Nat.{ℕ, zero, suc, _+_, _-_, _*_}
+use Prim.Native.Nat.{ℕ, _+_, _-_, _*_, _/_}
 use mathlib.Core.Bool.{Bool, true, false, cond, not, _&&_, _||_}
 use mathlib.Core.List.{List, [], _∷_, _++_, map}
 use lib.Dec.{leb, ltb, eqb}
 use lib.ListN.{length, getD, take, drop, replicate}
 use Rattle.records.specs.declared.Record.{Record}
-use Rattle.records.specs.Stream.{bearersIn}
 use Rattle.bearers.specs.declared.Admission.{Admission}
-use Rattle.bearers.specs.Admission.{release8, verdict, admissionOf}
+use Rattle.bearers.specs.Admission.{release8, admissionOf, judgeable, verdictsIn}
 use Rattle.bearers.specs.Bearer as bearer
 use Rattle.table.specs.declared.Answer.{Answer}
 use Rattle.table.specs.declared.Decision.{Decision}
@@ -74,3 +73,112 @@ abbrev pub tickOf : Record → Station → Answer
 tickOf e s =
     cond (ltb (e .time) (s .clock)) (refused 8 s)
     (tickAt e (soonest e s) (at (e .time) s))
+
+-- ---- requests
+
+-- the bearers that a request takes of the bytes after it
+abbrev pub taken : Record → List ℕ → List ℕ
+taken e bearers = take (e .number * 32) bearers
+
+-- as many whole bearer records as it counts, each well formed, and room for their verdicts
+abbrev pub complete : Record → List ℕ → ℕ → Bool
+complete e bearers room = leb (e .number * 32) (length bearers) && judgeable (taken e bearers) room
+
+-- "the free units are the capacity less these"
+abbrev pub freeUnits : Station → ℕ
+freeUnits s = s .capacity - s .used
+
+abbrev pub admission : Record → List ℕ → Station → Admission
+admission e bearers s = admissionOf release8 (freeUnits s) (bearer.bearersIn (length (taken e bearers) / 32) (taken e bearers))
+
+-- "1, done: a held record, deadline clock plus guard"
+abbrev pub heldFor : Record → Admission → Station → Entry
+heldFor e a s =
+    record
+    { state = 3
+    ; neighbour = e .neighbour
+    ; old = e .old
+    ; new = record { 0 = issue s }
+    ; requested = 0
+    ; admitted = a .admitted
+    ; status = 0
+    ; units = a .units
+    ; deadline = s .clock + s .guard
+    }
+
+-- "for a request sends 3", the reason being the reply number
+abbrev pub failure : ℕ → Record → Station → Answer
+failure reply e s = answer reply 0 0 (message 3 (e .neighbour) (e .old .0) 0 0 0 reply) s
+
+abbrev pub grantAt : Record → Admission → ℕ → Station → Answer
+grantAt e a i s =
+    cond (eqb (a .admitted) 0) (failure 5 e s)
+    (answer 0 0 (a .count) (message 2 (e .neighbour) (e .old .0) (issue s) (a .admitted) (a .refused) 0)
+    (add i (issue s) (heldFor e a s) s))
+
+abbrev pub requestAt : Record → List ℕ → Found → Station → Answer
+requestAt e bearers Nothing s = failure 4 e s
+requestAt e bearers (At i) s = grantAt e (admission e bearers s) i s
+
+-- "1, 3, 4, 5 for requests"
+abbrev pub repeatOf : Record → List ℕ → Found → Station → Answer
+repeatOf e bearers (At i) s = refused 3 s
+repeatOf e bearers Nothing s = requestAt e bearers (find isFree s) s
+
+abbrev pub requestOf : Record → List ℕ → ℕ → Station → Answer
+requestOf e bearers room s = cond (complete e bearers room) (repeatOf e bearers (find (about e) s) s) (refused 1 s)
+
+-- what it leaves in the verdict buffer
+abbrev pub verdictsAt : Record → List ℕ → Found → Station → List ℕ → List ℕ
+verdictsAt e bearers Nothing s buffer = replicate (e .number) 5 ++ drop (e .number) buffer
+verdictsAt e bearers (At i) s buffer = verdictsIn (taken e bearers) (freeUnits s) buffer
+
+abbrev pub verdictsRepeat : Record → List ℕ → Found → Station → List ℕ → List ℕ
+verdictsRepeat e bearers (At i) s buffer = buffer
+verdictsRepeat e bearers Nothing s buffer = verdictsAt e bearers (find isFree s) s buffer
+
+-- ---- the step
+
+-- one event with the bytes that follow it and so much room for verdicts: "Order: 1, .."
+abbrev pub stepOf : Station → Record → List ℕ → ℕ → Answer
+stepOf s e bearers room =
+    cond (wellFormed e)
+    (cond (eqb (e .kind) 1) (requestOf e bearers room s)
+    (cond (eqb (e .kind) 9) (startAt e (find isFree s) s)
+    (cond (eqb (e .kind) 15) (tickOf e s)
+    (cond (eqb (e .kind) 7 || eqb (e .kind) 14) (resetOf e s)
+    (cond (eqb (e .kind) 8) (answer 0 0 0 silence s)
+    (aboutOne e (find (about e) s) s))))))
+    (refused 1 s)
+
+-- the verdict buffer after it
+abbrev pub verdictsOf : Station → Record → List ℕ → List ℕ → List ℕ
+verdictsOf s e bearers buffer =
+    cond (wellFormed e && eqb (e .kind) 1 && complete e bearers (length buffer))
+    (verdictsRepeat e bearers (find (about e) s) s buffer) buffer
+
+-- ---- birth
+
+-- a fresh station: "clock 0"; "before any issue it is as if 4,095 had been issued"
+abbrev pub fresh : ℕ → ℕ → ℕ → ℕ → Station
+fresh capacity prep overall guard =
+    record
+    { entries = replicate 64 blank
+    ; clock = 0
+    ; last = 4095
+    ; used = 0
+    ; capacity = capacity
+    ; prep = prep
+    ; overall = overall
+    ; guard = guard
+    }
+
+-- "A setting out of range: reply 1 and a fresh station of capacity 0 with all three timers 1 ms."
+abbrev pub isTimer : ℕ → Bool
+isTimer t = leb 1 t && leb t 600000
+
+abbrev pub settled : ℕ → ℕ → ℕ → ℕ → Bool
+settled capacity prep overall guard = leb capacity 1000000000 && isTimer prep && isTimer overall && isTimer guard
+
+abbrev pub bornOf : ℕ → ℕ → ℕ → ℕ → Station
+bornOf capacity prep overall guard = cond (settled capacity prep overall guard) (fresh capacity prep overall guard) (fresh 0 1 1 1)
