@@ -1,8 +1,8 @@
 -- The bearers of a request, read one after the other.
-use Prim.Native.Nat.{ℕ, zero, suc, _+_, _*_, _-_, _≤_, _<_}
+use Prim.Native.Nat.{ℕ, zero, suc, _+_, _*_, _-_, _/_, _%_, _≤_, _<_}
 use mathlib.Core.Path.{_≡_, refl, _∙_, sym, ap, subst}
-use mathlib.Core.Bool.{Bool, true, false, cond, _&&_}
-use mathlib.Core.List.{List, _∷_, map}
+use mathlib.Core.Bool.{Bool, true, false, _&&_}
+use mathlib.Core.List.{List, _∷_}
 use borrow.Author.Tests.{le-leb, leb-true}
 use native.Mathlib.Omega.{arith}
 use lib.Dec.{leb, eqb}
@@ -12,8 +12,8 @@ use Rattle.laws.proofs.Tests.{by-cases, both-true}
 use Rattle.records.specs.declared.Record.{Record}
 use Rattle.records.specs.Record.{recordOf}
 use Rattle.bearers.specs.declared.Bearer.{Bearer}
-use Rattle.bearers.specs.declared.Parsed.{Parsed}
 use Rattle.bearers.specs.declared.Parsed.the-variants.{Whole, Malformed}
+use Rattle.bearers.specs.Admission.{countable}
 use Rattle.bearers.specs.Bearer.{othersZero, isBearer, bearerOf, parsed, recordsIn, bearersIn, allBearers}
 use Rattle.bearers.specs.Working.{parsedAt}
 
@@ -75,3 +75,10 @@ module _ (bytes : List ℕ) (count i : ℕ) (inside : i < count) where
     pub stop : parsedAt bytes i ≡ Malformed → allBearers (rest bytes count i) ≡ false
     unfolding allBearers
     stop e = rw (next-records, parsed-malformed (placed bytes i) (sym parsed-here ∙ e))
+
+-- What is countable is at most 256 records, and no more than there is room for.
+pub counted : (size room : ℕ) → countable size room ≡ true → (size / 32 ≤ 256) × (size / 32 ≤ room)
+counted size room t =
+    let whole : Bool = eqb (size % 32) 0 && leb 1 (size / 32) in
+    let halves = both-true (whole && leb (size / 32) 256) (leb (size / 32) room) t in
+    (leb-true (size / 32) 256 (both-true whole (leb (size / 32) 256) (halves .0) .1), leb-true (size / 32) room (halves .1))

@@ -56,7 +56,7 @@ those-unchanged test t (there {x} w) = rw (those-unchanged test t w)
 
 -- ---- turns
 
--- The turns of higher priorities are unchanged, and of the turns of all only that bearer's is missing.
+-- The turns from a number above its priority on are unchanged; from one up to its priority, only its own is missing.
 pub turns-unchanged : {b : Bearer} {xs ys : List Bearer} (n p : ℕ) → b .priority < p → Without b xs ys → turnsFrom n p xs ≡ turnsFrom n p ys
 unfolding turnsFrom
 turns-unchanged zero p h w = refl
@@ -97,7 +97,7 @@ free-without {b} k free (there {x} {xs} w) distinct other more =
 
 module _ (gbr : ℕ → Bool) (b : Bearer) (bs rest : List Bearer) (w : Without b bs rest) where
   -- Whether another bearer has a turn, and which verdict it has if not, is as before.
-  pub standing-without : (c : Bearer) → (b .id ≡ c .id → ⊥) → standing gbr (occurs (c .id) rest) c ≡ standing gbr (occurs (c .id) bs) c
+  standing-without : (c : Bearer) → (b .id ≡ c .id → ⊥) → standing gbr (occurs (c .id) rest) c ≡ standing gbr (occurs (c .id) bs) c
   standing-without c other =
       let same : occurs (c .id) rest ≡ occurs (c .id) bs = sym (occurs-without (c .id) w ∙ rw (ne-eqb (b .id) (c .id) other) (omega arith)) in
       rw same
@@ -107,12 +107,13 @@ module _ (gbr : ℕ → Bool) (b : Bearer) (bs rest : List Bearer) (w : Without 
     pub others : (c : Bearer) → 0 < occurs (c .id) rest → b .id ≡ c .id → ⊥
     others c h e = let some : 0 < occurs (b .id) rest = rw e h in omega (arith, occurs-own w, turn-once gbr bs b turn .0)
 
+    -- Of the turns of the request only its own is missing.
     turns-request : b .priority ≤ 15 → Without b (turns gbr bs) (turns gbr rest)
     turns-request h =
         let same : those (hasTurn gbr rest) rest ≡ those (hasTurn gbr bs) rest = those-same _ _ rest (λ c some. ap (λ (v : ℕ). eqb v 0) (standing-without c (others c some))) in
         rw same (turns-without 15 1 (turn-once gbr bs b turn .1) (omega arith) (those-without (hasTurn gbr bs) turn w))
 
-    -- So has each of them the same verdict as before, where that bearer did not fit.
+    -- So each other has the verdict that it had, where that bearer did not fit.
     pub verdict-without : (free : ℕ) → b .priority ≤ 15 → freeAt (turns gbr bs) (b .id) free < b .units → (c : Bearer) → (b .id ≡ c .id → ⊥) → verdict gbr free rest c ≡ verdict gbr free bs c
     unfolding verdict
     verdict-without free h more c other =

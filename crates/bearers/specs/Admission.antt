@@ -5,7 +5,7 @@ use mathlib.Core.Bool.{Bool, true, false, cond, not, _&&_}
 use mathlib.Core.List.{List, [], _∷_, _++_, map}
 use lib.Count.{ones}
 use lib.Dec.{leb, ltb, eqb}
-use lib.ListN.{length, drop}
+use lib.ListN.{length, drop, replicate}
 use Rattle.bearers.specs.declared.Admission.{Admission}
 use Rattle.bearers.specs.declared.Bearer.{Bearer}
 use Rattle.bearers.specs.declared.Judgement.{Judgement}
@@ -86,11 +86,13 @@ admissionOf gbr free bs =
 abbrev pub release8 : ℕ → Bool
 release8 qci = leb 1 qci && leb qci 4
 
--- 1 to 256 whole records, each a bearer's, and room for a verdict each
+-- so many bytes are 1 to 256 whole records, with room for a verdict each
+abbrev pub countable : ℕ → ℕ → Bool
+countable size room = eqb (size % 32) 0 && leb 1 (size / 32) && leb (size / 32) 256 && leb (size / 32) room
+
+-- and each is a bearer's
 abbrev pub judgeable : List ℕ → ℕ → Bool
-judgeable bytes room =
-    eqb (length bytes % 32) 0 && leb 1 (length bytes / 32) && leb (length bytes / 32) 256
-    && leb (length bytes / 32) room && allBearers (recordsIn (length bytes / 32) bytes)
+judgeable bytes room = countable (length bytes) room && allBearers (recordsIn (length bytes / 32) bytes)
 
 abbrev pub judgementOf : List ℕ → ℕ → ℕ → Judgement
 judgementOf bytes free room = cond (judgeable bytes room) (Given (admissionOf release8 free (bearersIn (length bytes / 32) bytes))) Malformed
@@ -100,3 +102,7 @@ abbrev pub verdictsIn : List ℕ → ℕ → List ℕ → List ℕ
 verdictsIn bytes free buffer =
     let bs = bearersIn (length bytes / 32) bytes in
     cond (judgeable bytes (length buffer)) (map (verdict release8 free bs) bs ++ drop (length bs) buffer) buffer
+
+-- the verdicts of a request that finds the table full: "writes verdict 5 for each bearer"
+abbrev pub allFive : ℕ → List ℕ → List ℕ
+allFive count buffer = cond (leb count (length buffer)) (replicate count 5 ++ drop count buffer) buffer

@@ -1,26 +1,71 @@
 -- What a decision keeps.
-use Prim.Native.Nat.{ℕ, _≤_}
-use mathlib.Core.Path.{_≡_}
-use mathlib.Core.Bool.{Bool, true, false, cond}
+use Prim.Native.Nat.{ℕ, zero, suc, _≤_}
+use mathlib.Core.Path.{_≡_, refl}
+use mathlib.Core.Bool.{Bool, true, false, not, _&&_, _||_}
+use mathlib.Core.List.{List, [], _∷_}
+use borrow.Author.Tests.{eqb-true}
 use native.Mathlib.Omega.{arith}
 use lib.Dec.{eqb}
-use Rattle.laws.proofs.Tests.{by-cases}
+use lib.ListN.{getD}
+use Rattle.laws.proofs.Tests.{by-cases, both-true}
 use Rattle.records.specs.declared.Record.{Record}
-use Rattle.table.specs.declared.Decision.{Decision}
 use Rattle.table.specs.declared.Entry.{Entry}
-use Rattle.table.specs.Events.{actionOf, decide, listsFit, setFits}
+use Rattle.table.specs.Events.{actions, actionOf, decide, listsFit, setFits, prepared, stored, serving}
+use Rattle.table.specs.Numbers.{blank}
+
+-- ---- where an action stands
+
+-- whether a test holds of each element of a list and its place
+abbrev every : {A : Type 0} → (ℕ → A → Bool) → List A → Bool
+every test [] = true
+every test (x ∷ xs) = test 0 x && every (λ i. test (suc i)) xs
+
+-- Then it holds of what is read at any place, if it holds of what is read beyond the end.
+every-at : {A : Type 0} (test : ℕ → A → Bool) (xs : List A) (d : A) (i : ℕ) → every test xs ≡ true → ((j : ℕ) → test j d ≡ true) → test i (getD xs i d) ≡ true
+every-at test [] d i t beyond = beyond i
+every-at test (x ∷ xs) d zero t beyond = both-true (test 0 x) (every (λ i. test (suc i)) xs) t .0
+every-at test (x ∷ xs) d (suc i) t beyond =
+    every-at (λ j. test (suc j)) xs d i (both-true (test 0 x) (every (λ j. test (suc j)) xs) t .1) (λ j. beyond (suc j))
+
+-- whether an action stands at one kind and one state only
+abbrev sole : ℕ → ℕ → ℕ → ℕ → ℕ → ℕ → Bool
+sole action k s kind state x = not (eqb x action) || eqb kind k && eqb state s
+
+-- By that test of the whole table, an action is found at its kind and state only.
+stands : (action k s kind state : ℕ) → eqb 0 action ≡ false → every (λ i row. every (sole action k s i) row) actions ≡ true → eqb (actionOf kind state) action ≡ true → (kind ≡ k) × (state ≡ s)
+stands action k s kind state some test t =
+    let row = every-at (λ i row. every (sole action k s i) row) actions [] kind test (λ j. refl) in
+    let here = every-at (sole action k s kind) (getD actions kind []) 0 state row (λ j. rw some) in
+    let both : (eqb kind k ≡ true) × (eqb state s ≡ true) = both-true (eqb kind k) (eqb state s) (rw t at here) in
+    (eqb-true kind k (both .0), eqb-true state s (both .1))
+
+-- ---- the records that a decision makes
+
+-- What holds of the record, of a free place, and of each of the three other records that a decision makes, holds of what is decided.
+pub decide-keeps : (P : Entry → Type 0) (e : Record) (r : Entry) (deadline : ℕ)
+    → P r → P blank
+    → (e .kind ≡ 2 → r .state ≡ 1 → listsFit r e ≡ true → P (prepared r e deadline))
+    → (r .state ≡ 3 → setFits r e ≡ true → P (stored r e))
+    → (r .state ≡ 3 → P (serving r))
+    → P (decide e r deadline .entry)
+decide-keeps P e r deadline same ended acknowledged status arrived =
+    let action = actionOf (e .kind) (r .state) in
+    by-cases (eqb action 0) (λ t. rw t same)
+    (λ t. by-cases (eqb action 11)
+    (λ u.
+    let there = stands 11 2 1 (e .kind) (r .state) refl refl u in
+    rw (t, u) (by-cases (listsFit r e) (λ v. rw v (acknowledged (there .0) (there .1) v)) (λ v. rw v same)))
+    (λ u. by-cases (eqb action 12)
+    (λ w.
+    let there = stands 12 4 3 (e .kind) (r .state) refl refl w in
+    rw (t, u, w) (by-cases (setFits r e) (λ v. rw v (status (there .1) v)) (λ v. rw v same)))
+    (λ w. by-cases (eqb action 13)
+    (λ x. rw (t, u, w, x) (by-cases (setFits r e) (λ v. rw v same) (λ v. rw v same)))
+    (λ x. by-cases (eqb action 8)
+    (λ y. rw (t, u, w, x, y) (arrived (stands 8 11 3 (e .kind) (r .state) refl refl y .1)))
+    (λ y. rw (t, u, w, x, y) ended)))))
 
 -- No decision gives a record more units.
 pub decide-units : (e : Record) (r : Entry) (deadline : ℕ) → decide e r deadline .entry .units ≤ r .units
 decide-units e r deadline =
-    let action = actionOf (e .kind) (r .state) in
-    by-cases (eqb action 0) (λ t. rw t (omega arith))
-    (λ t. by-cases (eqb action 11)
-    (λ u. rw (t, u) (by-cases (listsFit r e) (λ v. rw v (omega arith)) (λ v. rw v (omega arith))))
-    (λ u. by-cases (eqb action 12)
-    (λ w. rw (t, u, w) (by-cases (setFits r e) (λ v. rw v (omega arith)) (λ v. rw v (omega arith))))
-    (λ w. by-cases (eqb action 13)
-    (λ x. rw (t, u, w, x) (by-cases (setFits r e) (λ v. rw v (omega arith)) (λ v. rw v (omega arith))))
-    (λ x. by-cases (eqb action 8)
-    (λ y. rw (t, u, w, x, y) (omega arith))
-    (λ y. rw (t, u, w, x, y) (omega arith))))))
+    decide-keeps (λ d. d .units ≤ r .units) e r deadline (omega arith) (omega arith) (λ _ _ _. omega arith) (λ _ _. omega arith) (λ _. omega arith)

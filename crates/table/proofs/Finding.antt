@@ -1,7 +1,7 @@
 -- How a walk over the table goes on from a place.
 use Prim.Native.Nat.{ℕ, suc, _+_, _≤_, _<_}
-use mathlib.Core.Path.{_≡_, refl, _∙_, sym}
-use mathlib.Core.Bool.{Bool, true, false, cond, _&&_, _||_}
+use mathlib.Core.Path.{_≡_, refl}
+use mathlib.Core.Bool.{Bool, true, false, _&&_, _||_}
 use mathlib.Core.List.{List, [], _∷_}
 use native.Mathlib.Numerals.{add-one}
 use native.Mathlib.Omega.{arith}
@@ -11,7 +11,6 @@ use Rattle.laws.proofs.Tests.{by-cases}
 use Rattle.records.specs.declared.Record.{Record}
 use Rattle.table.specs.declared.Best.{Best}
 use Rattle.table.specs.declared.Entry.{Entry}
-use Rattle.table.specs.declared.Found.{Found}
 use Rattle.table.specs.declared.Found.the-variants.{At, Nothing}
 use Rattle.table.specs.Events.{key}
 use Rattle.table.specs.Numbers.{isFree, anyOf}
@@ -66,6 +65,15 @@ found-at test (r ∷ rs) i k d e =
     (λ t.
     let later = found-at test rs (i + 1) k d (rw t at e) in
     (suc (later .0), omega (arith, later .1), omega (arith, later .2), later .3))
+
+-- Where no place is found, the test holds of no record.
+pub found-none : (test : Entry → Bool) (rs : List Entry) (i : ℕ) → findFrom test i rs ≡ Nothing → anyOf test rs ≡ false
+unfolding findFrom anyOf
+found-none test [] i e = refl
+found-none test (r ∷ rs) i e =
+    by-cases (test r)
+    (λ t. let here : At i ≡ Nothing = rw t at e in let z : _≡_ {A = ℕ} 0 1 = cc in absurd (omega arith))
+    (λ t. rw t (found-none test rs (i + 1) (rw t at e)))
 
 -- The soonest record that is due stands in the table.
 pub due-at : (e : Record) (rs : List Entry) (best : Best) (i k : ℕ) → (isFree (best .entry) ≡ false → best .place < i) → dueFrom e best i rs ≡ At k → k < i + length rs

@@ -1,17 +1,17 @@
 -- What a sound station lets a step do at a place of its table.
-use Prim.Native.Nat.{ℕ, _+_, _≤_, _<_}
+use Prim.Native.Nat.{ℕ, _<_}
 use mathlib.Core.Bool.{Bool, true≢false}
 use mathlib.Core.Path.{_≡_}
 use native.Mathlib.Omega.{arith}
-use lib.ListN.{length, getD}
+use lib.ListN.{getD}
 use Rattle.records.specs.declared.Record.{Record}
 use Rattle.table.specs.declared.Entry.{Entry}
-use Rattle.table.specs.declared.Found.the-variants.{At, Nothing}
+use Rattle.table.specs.declared.Found.the-variants.{At}
 use Rattle.table.specs.declared.Station.{Station}
 use Rattle.table.specs.Events.{decide}
-use Rattle.table.specs.Numbers.{blank, isFree}
+use Rattle.table.specs.Numbers.{blank}
 use Rattle.table.specs.Sound.{Sound}
-use Rattle.table.specs.Table.{find, soonest, tally, at, Puts}
+use Rattle.table.specs.Table.{find, soonest, at, Puts}
 use Rattle.table.proofs.Deciding.{decide-units}
 use Rattle.table.proofs.Finding.{found-at, due-at}
 use Rattle.table.proofs.Tally.{tally-at}

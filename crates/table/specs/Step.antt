@@ -3,12 +3,13 @@ use Prim.Native.Nat.{ℕ, _+_, _-_, _*_, _/_}
 use mathlib.Core.Bool.{Bool, true, false, cond, not, _&&_, _||_}
 use mathlib.Core.List.{List, [], _∷_, _++_, map}
 use lib.Dec.{leb, ltb, eqb}
-use lib.ListN.{length, getD, take, drop, replicate}
+use lib.ListN.{length, getD, take, replicate}
 use Rattle.records.specs.declared.Record.{Record}
 use Rattle.bearers.specs.declared.Admission.{Admission}
-use Rattle.bearers.specs.Admission.{release8, admissionOf, judgeable, verdictsIn}
+use Rattle.bearers.specs.Admission.{release8, admissionOf, judgeable, verdictsIn, allFive}
 use Rattle.bearers.specs.Bearer as bearer
 use Rattle.table.specs.declared.Answer.{Answer}
+use Rattle.table.specs.declared.Birth.{Birth}
 use Rattle.table.specs.declared.Decision.{Decision}
 use Rattle.table.specs.declared.Entry.{Entry}
 use Rattle.table.specs.declared.Found.{Found}
@@ -88,22 +89,23 @@ complete e bearers room = leb (e .number * 32) (length bearers) && judgeable (ta
 abbrev pub freeUnits : Station → ℕ
 freeUnits s = s .capacity - s .used
 
-abbrev pub admission : Record → List ℕ → Station → Admission
-admission e bearers s = admissionOf release8 (freeUnits s) (bearer.bearersIn (length (taken e bearers) / 32) (taken e bearers))
+-- what is admitted of bearers
+abbrev pub admission : List ℕ → Station → Admission
+admission bearers s = admissionOf release8 (freeUnits s) (bearer.bearersIn (length bearers / 32) bearers)
 
 -- "1, done: a held record, deadline clock plus guard"
 abbrev pub heldFor : Record → Admission → Station → Entry
 heldFor e a s =
-    record
-    { state = 3
-    ; neighbour = e .neighbour
-    ; old = e .old
-    ; new = record { 0 = issue s }
-    ; requested = 0
-    ; admitted = a .admitted
-    ; status = 0
-    ; units = a .units
-    ; deadline = s .clock + s .guard
+    record {
+      state = 3;
+      neighbour = e .neighbour;
+      old = e .old;
+      new = record { 0 = issue s };
+      requested = 0;
+      admitted = a .admitted;
+      status = 0;
+      units = a .units;
+      deadline = s .clock + s .guard;
     }
 
 -- "for a request sends 3", the reason being the reply number
@@ -116,61 +118,68 @@ grantAt e a i s =
     (answer 0 0 (a .count) (message 2 (e .neighbour) (e .old .0) (issue s) (a .admitted) (a .refused) 0)
     (add i (issue s) (heldFor e a s) s))
 
-abbrev pub requestAt : Record → List ℕ → Found → Station → Answer
-requestAt e bearers Nothing s = failure 4 e s
-requestAt e bearers (At i) s = grantAt e (admission e bearers s) i s
+-- with its bearers at hand and a free place, if there is one; and what it leaves in the verdict buffer
+abbrev pub admittedAt : Record → List ℕ → Found → Station → Answer
+admittedAt e bearers Nothing s = failure 4 e s
+admittedAt e bearers (At i) s = grantAt e (admission bearers s) i s
 
--- "1, 3, 4, 5 for requests"
+abbrev pub verdictsAt : List ℕ → Found → Station → List ℕ → List ℕ
+verdictsAt bearers Nothing s buffer = allFive (length bearers / 32) buffer
+verdictsAt bearers (At i) s buffer = verdictsIn bearers (freeUnits s) buffer
+
+-- a held record that has its neighbour and Old ID, if there is one
 abbrev pub repeatOf : Record → List ℕ → Found → Station → Answer
 repeatOf e bearers (At i) s = refused 3 s
-repeatOf e bearers Nothing s = requestAt e bearers (find isFree s) s
+repeatOf e bearers Nothing s = admittedAt e bearers (find isFree s) s
 
+abbrev pub verdictsRepeat : List ℕ → Found → Station → List ℕ → List ℕ
+verdictsRepeat bearers (At i) s buffer = buffer
+verdictsRepeat bearers Nothing s buffer = verdictsAt bearers (find isFree s) s buffer
+
+-- "1, 3, 4, 5 for requests"
 abbrev pub requestOf : Record → List ℕ → ℕ → Station → Answer
-requestOf e bearers room s = cond (complete e bearers room) (repeatOf e bearers (find (about e) s) s) (refused 1 s)
+requestOf e bearers room s =
+    cond (complete e bearers room) (repeatOf e (taken e bearers) (find (about e) s) s) (refused 1 s)
 
--- what it leaves in the verdict buffer
-abbrev pub verdictsAt : Record → List ℕ → Found → Station → List ℕ → List ℕ
-verdictsAt e bearers Nothing s buffer = replicate (e .number) 5 ++ drop (e .number) buffer
-verdictsAt e bearers (At i) s buffer = verdictsIn (taken e bearers) (freeUnits s) buffer
-
-abbrev pub verdictsRepeat : Record → List ℕ → Found → Station → List ℕ → List ℕ
-verdictsRepeat e bearers (At i) s buffer = buffer
-verdictsRepeat e bearers Nothing s buffer = verdictsAt e bearers (find isFree s) s buffer
+abbrev pub requestVerdicts : Record → List ℕ → Station → List ℕ → List ℕ
+requestVerdicts e bearers s buffer =
+    cond (complete e bearers (length buffer)) (verdictsRepeat (taken e bearers) (find (about e) s) s buffer) buffer
 
 -- ---- the step
 
--- one event with the bytes that follow it and so much room for verdicts: "Order: 1, .."
-abbrev pub stepOf : Station → Record → List ℕ → ℕ → Answer
-stepOf s e bearers room =
-    cond (wellFormed e)
-    (cond (eqb (e .kind) 1) (requestOf e bearers room s)
-    (cond (eqb (e .kind) 9) (startAt e (find isFree s) s)
+-- the other kinds: starts, ticks, resets, a reset's response, and what is about one record
+abbrev pub eventOf : Record → Station → Answer
+eventOf e s =
+    cond (eqb (e .kind) 9) (startAt e (find isFree s) s)
     (cond (eqb (e .kind) 15) (tickOf e s)
     (cond (eqb (e .kind) 7 || eqb (e .kind) 14) (resetOf e s)
     (cond (eqb (e .kind) 8) (answer 0 0 0 silence s)
-    (aboutOne e (find (about e) s) s))))))
-    (refused 1 s)
+    (aboutOne e (find (about e) s) s))))
+
+-- one event with the bytes that follow it and so much room for verdicts: 1 ahead of all others
+abbrev pub stepOf : Station → Record → List ℕ → ℕ → Answer
+stepOf s e bearers room =
+    cond (wellFormed e) (cond (eqb (e .kind) 1) (requestOf e bearers room s) (eventOf e s)) (refused 1 s)
 
 -- the verdict buffer after it
 abbrev pub verdictsOf : Station → Record → List ℕ → List ℕ → List ℕ
 verdictsOf s e bearers buffer =
-    cond (wellFormed e && eqb (e .kind) 1 && complete e bearers (length buffer))
-    (verdictsRepeat e bearers (find (about e) s) s buffer) buffer
+    cond (wellFormed e) (cond (eqb (e .kind) 1) (requestVerdicts e bearers s buffer) buffer) buffer
 
 -- ---- birth
 
 -- a fresh station: "clock 0"; "before any issue it is as if 4,095 had been issued"
 abbrev pub fresh : ℕ → ℕ → ℕ → ℕ → Station
 fresh capacity prep overall guard =
-    record
-    { entries = replicate 64 blank
-    ; clock = 0
-    ; last = 4095
-    ; used = 0
-    ; capacity = capacity
-    ; prep = prep
-    ; overall = overall
-    ; guard = guard
+    record {
+      entries = replicate 64 blank;
+      clock = 0;
+      last = 4095;
+      used = 0;
+      capacity = capacity;
+      prep = prep;
+      overall = overall;
+      guard = guard;
     }
 
 -- "A setting out of range: reply 1 and a fresh station of capacity 0 with all three timers 1 ms."
@@ -182,3 +191,7 @@ settled capacity prep overall guard = leb capacity 1000000000 && isTimer prep &&
 
 abbrev pub bornOf : ℕ → ℕ → ℕ → ℕ → Station
 bornOf capacity prep overall guard = cond (settled capacity prep overall guard) (fresh capacity prep overall guard) (fresh 0 1 1 1)
+
+abbrev pub birthOf : ℕ → ℕ → ℕ → ℕ → Birth
+birthOf capacity prep overall guard =
+    record { reply = cond (settled capacity prep overall guard) 0 1; station = bornOf capacity prep overall guard }

@@ -1,18 +1,28 @@
 // The handover table of one station: it takes decoded messages, local decisions and clock ticks, and gives the next table, a
 // reply and at most one message to send.
+use bearers::Admission;
+use bearers::Judgement;
+use bearers::admit;
+use bearers::can_judge;
+use bearers::refuse_all;
 use bearers::sets;
 use records::NewId;
 use records::OldId;
 use records::Record;
+use records::SIZE;
 ghost use mathlib.Core.Path.{_≡_};
-ghost use Prim.Native.Nat.{_<_};
+ghost use Prim.Native.Nat.{_-_, _/_, _≤_, _<_};
 ghost use mathlib.Core.Bool.{cond};
+ghost use mathlib.Core.List.{[]};
+ghost use Rattle.bearers.specs.Admission.{judgeable, allFive};
+ghost use lib.Dec.{eqb};
 ghost use lib.ListN.{length, getD};
 ghost use Rattle.table.specs.Numbers.{isFree, blank as blankOf, own as ownOf, ownIs, anyOf, nextAfter};
 ghost use Rattle.table.specs.Fields.{isKind, isFilled, idsWithin, valuesWithin, othersZero, wellFormed};
-ghost use Rattle.table.specs.Table.{find as findOf, betterBy, soonest as soonestOf, Puts, put as putOf};
+ghost use Rattle.table.specs.Table.{find as findOf, betterBy, soonest as soonestOf, Puts, put as putOf, endedBy, reset as resetTo};
 ghost use Rattle.table.specs.Sound.{Sound};
-ghost use Rattle.table.specs.Step.{issue as issueOf, refused as refusedOf, carried as carriedOf, aboutOne, tickOf, startAt};
+ghost use Rattle.table.specs.Reached.{Reached};
+ghost use Rattle.table.specs.Step.{issue as issueOf, refused as refusedOf, carried as carriedOf, aboutOne, tickOf, startAt, resetOf, failure as failureOf, grantAt, admittedAt, verdictsAt, requestOf, requestVerdicts, eventOf, stepOf, verdictsOf, isTimer, fresh as freshOf, birthOf};
 ghost use Rattle.table.specs.Events.{about, keyed, message as messageOf, silence as silenceOf, listsFit, setFits, refusal as refusalOf, decision, prepared, stored, serving, lastWord, decide as decideOf};
 
 // A record of the table: 0 free, 1 preparing, 2 prepared, 3 held, 4 serving.
@@ -49,6 +59,12 @@ pub struct Outcome {
 
 pub struct Answer {
     pub outcome: Outcome,
+    pub station: Station,
+}
+
+// A station at its birth: reply 1 if a setting was out of range.
+pub struct Birth {
+    pub reply: u8,
     pub station: Station,
 }
 
@@ -418,6 +434,13 @@ fn arrived(r: Entry) -> Decision
     }
 }
 
+// What a reset sends: a response to a request, a request for a local decision.
+fn reset_word(kind: u8) -> u8
+    ensures { λ r. ⌜ r ≡ cond (eqb kind 7) 8 7 ⌝ }
+{
+    if kind == 7 { 8 } else { 7 }
+}
+
 // A record's own ID.
 fn own(r: Entry) -> u16
     ensures { λ i. ⌜ i ≡ ownOf r ⌝ }
@@ -459,7 +482,49 @@ fn better(e: Record, key: [u8; 5], i: usize, r: Entry, best: Best) -> Best
     }
 }
 
+// A timer is 1 to 600,000 ms.
+fn is_timer(time: u32) -> bool
+    ensures { λ r. ⌜ r ≡ isTimer time ⌝ }
+{
+    (1 <= time) & (time <= 600_000)
+}
+
+// A fresh station.
+fn fresh(capacity: u32, prep: u32, overall: u32, guard: u32) -> Station
+    ensures { λ s. ⌜ s ≡ freshOf capacity prep overall guard ⌝ }
+{
+    let none = blank();
+    Station {
+        entries: [none; 64],
+        clock: 0,
+        last: 4095,
+        used: 0,
+        capacity,
+        prep,
+        overall,
+        guard,
+    }
+}
+
 impl Station {
+    // A fresh station with these settings: capacity 0 to 1,000,000,000 units, timers 1 to 600,000 ms. If one is out of range
+    // the reply is 1, and the station has capacity 0 and timers of 1 ms.
+    pub fn new(capacity: u32, prep: u32, overall: u32, guard: u32) -> Birth
+        ensures { λ r. ⌜ r ≡ birthOf capacity prep overall guard ⌝ }
+    {
+        if (capacity <= 1_000_000_000) & is_timer(prep) & is_timer(overall) & is_timer(guard) {
+            Birth {
+                reply: 0,
+                station: fresh(capacity, prep, overall, guard),
+            }
+        } else {
+            Birth {
+                reply: 1,
+                station: fresh(0, 1, 1, 1),
+            }
+        }
+    }
+
     // The first record that an event is about.
     fn find(self, e: Record) -> Found
         requires { ⌜ (e .kind < 18) × (length (self .entries) ≡ 64) ⌝ }
@@ -654,5 +719,191 @@ impl Station {
             }
             Found::Nothing => self.refused(4),
         }
+    }
+
+    // The record at a place ends, if a reset is about it.
+    fn ended(self, i: usize, e: Record, key: [u8; 5]) -> Station
+        requires { ⌜ Puts i blankOf self ⌝ }
+        ensures { λ s. ⌜ s ≡ endedBy (λ k. getD key k 0) i e self ⌝ }
+    {
+        let r = self.entries[i];
+        if is_about(e, r, key) {
+            self.put(i, blank())
+        } else {
+            self
+        }
+    }
+
+    // All outgoing and held records of a neighbour end.
+    fn reset(mut self, e: Record) -> Station
+        requires { ⌜ (e .kind < 18) × Sound self ⌝ }
+        ensures { λ s. ⌜ s ≡ resetTo e self ⌝ }
+    {
+        let kind = e.kind as usize;
+        let key = KEYS[kind];
+        for i in 0..64 {
+            self = self.ended(i, e, key);
+        }
+        self
+    }
+
+    // A reset, from a neighbour or of one.
+    fn reset_by(self, e: Record) -> Answer
+        requires { ⌜ (e .kind < 18) × Sound self ⌝ }
+        ensures { λ a. ⌜ a ≡ resetOf e self ⌝ }
+    {
+        Answer {
+            outcome: Outcome {
+                reply: 0,
+                ending: 10,
+                count: 0,
+                message: message(reset_word(e.kind), e.neighbour, OldId(0), NewId(0), 0, 0, 0),
+            },
+            station: self.reset(e),
+        }
+    }
+
+    // A request that is refused: the failure says why.
+    fn failure(self, reply: u8, e: Record) -> Answer
+        ensures { λ a. ⌜ a ≡ failureOf reply e self ⌝ }
+    {
+        Answer {
+            outcome: Outcome {
+                reply,
+                ending: 0,
+                count: 0,
+                message: message(3, e.neighbour, e.old, NewId(0), 0, 0, reply),
+            },
+            station: self,
+        }
+    }
+
+    // What was admitted is held in a free place.
+    fn grant(mut self, e: Record, a: Admission, i: usize) -> Answer
+        requires { ⌜ (i < 64) × (a .units ≤ self .capacity - self .used) × Sound self ⌝ }
+        ensures { λ x. ⌜ x ≡ grantAt e a i self ⌝ }
+    {
+        if a.admitted == 0 {
+            return self.failure(5, e);
+        }
+        let id = self.issue();
+        let old = e.old;
+        self.last = id;
+        self.used = self.used + a.units;
+        self.entries[i] = Entry {
+            state: 3,
+            neighbour: e.neighbour,
+            old,
+            new: NewId(id),
+            requested: 0,
+            admitted: a.admitted,
+            status: 0,
+            units: a.units,
+            deadline: self.clock + self.guard as u64,
+        };
+        Answer {
+            outcome: Outcome {
+                reply: 0,
+                ending: 0,
+                count: a.count,
+                message: message(2, e.neighbour, old, NewId(id), a.admitted, a.refused, 0),
+            },
+            station: self,
+        }
+    }
+
+    // A request that finds the table full.
+    fn full(self, e: Record, bearers: &[u8], verdicts: &mut [u8]) -> Answer
+        ensures { λ a. ⌜ (a ≡ cond (judgeable (now (bearers .entry)) (length (now (verdicts .entry)))) (failureOf 4 e self) (refusedOf 1 self)) × (now (verdicts .exit) ≡ cond (judgeable (now (bearers .entry)) (length (now (verdicts .entry)))) (allFive (length (now (bearers .entry)) / 32) (now (verdicts .entry))) (now (verdicts .entry))) ⌝ }
+    {
+        if !can_judge(bearers, verdicts.len()) {
+            return self.refused(1);
+        }
+        refuse_all(bearers.len() / SIZE, verdicts);
+        self.failure(4, e)
+    }
+
+    // A request that no held record repeats.
+    fn admitted(self, e: Record, bearers: &[u8], verdicts: &mut [u8]) -> Answer
+        requires { ⌜ Sound self ⌝ }
+        ensures { λ a. ⌜ (a ≡ cond (judgeable (now (bearers .entry)) (length (now (verdicts .entry)))) (admittedAt e (now (bearers .entry)) (findOf isFree self) self) (refusedOf 1 self)) × (now (verdicts .exit) ≡ cond (judgeable (now (bearers .entry)) (length (now (verdicts .entry)))) (verdictsAt (now (bearers .entry)) (findOf isFree self) self (now (verdicts .entry))) (now (verdicts .entry))) ⌝ }
+    {
+        let found = self.vacant();
+        match found {
+            Found::At(i) => {
+                let judged = admit(bearers, self.capacity - self.used, verdicts);
+                match judged {
+                    Judgement::Given(a) => self.grant(e, a, i),
+                    Judgement::Malformed => self.refused(1),
+                }
+            }
+            Found::Nothing => self.full(e, bearers, verdicts),
+        }
+    }
+
+    // A well-formed request, with the bytes that follow it.
+    fn requested(self, e: Record, bearers: &[u8], verdicts: &mut [u8]) -> Answer
+        requires { ⌜ (e .kind < 18) × (e .number ≤ 256) × Sound self ⌝ }
+        ensures { λ a. ⌜ (a ≡ requestOf e (now (bearers .entry)) (length (now (verdicts .entry))) self) × (now (verdicts .exit) ≡ requestVerdicts e (now (bearers .entry)) self (now (verdicts .entry))) ⌝ }
+    {
+        let size = e.number as usize * SIZE;
+        if bearers.len() < size {
+            return self.refused(1);
+        }
+        let found = self.find(e);
+        match found {
+            Found::At(_) => {
+                if can_judge(&bearers[..size], verdicts.len()) {
+                    self.refused(3)
+                } else {
+                    self.refused(1)
+                }
+            }
+            Found::Nothing => self.admitted(e, &bearers[..size], verdicts),
+        }
+    }
+
+    // An event that is well formed and no request.
+    fn event(self, e: Record) -> Answer
+        requires { ⌜ (e .kind < 18) × Sound self ⌝ }
+        ensures { λ a. ⌜ a ≡ eventOf e self ⌝ }
+    {
+        let kind = e.kind;
+        match kind {
+            9 => self.start(e),
+            15 => self.tick(e),
+            7 | 14 => self.reset_by(e),
+            8 => self.refused(0),
+            _ => self.about_one(e),
+        }
+    }
+
+    // One event: the next station, the reply, the ending and the message to send. A request handed in here lacks its bearers.
+    pub fn step(mut self, e: Record) -> Answer
+        requires { ⌜ Reached self ⌝ }
+        ensures { λ a. ⌜ a ≡ stepOf self e [] 0 ⌝ }
+    {
+        if !well_formed(e) {
+            return self.refused(1);
+        }
+        if e.kind == 1 {
+            return self.refused(1);
+        }
+        self.event(e)
+    }
+
+    // One event with the bytes that follow it: a request takes its bearers from there, and their verdicts are written to the
+    // lent buffer, one byte each, the rest untouched.
+    pub fn request(mut self, e: Record, bearers: &[u8], verdicts: &mut [u8]) -> Answer
+        requires { ⌜ Reached self ⌝ }
+        ensures { λ a. ⌜ (a ≡ stepOf self e (now (bearers .entry)) (length (now (verdicts .entry)))) × (now (verdicts .exit) ≡ verdictsOf self e (now (bearers .entry)) (now (verdicts .entry))) ⌝ }
+    {
+        if !well_formed(e) {
+            return self.refused(1);
+        }
+        if e.kind == 1 {
+            return self.requested(e, bearers, verdicts);
+        }
+        self.event(e)
     }
 }

@@ -2,10 +2,6 @@
 use borrow.Author.Needs.{needs}
 use Rattle.table.proofs.better.Statement.{statement}
 use Rattle.table.proofs.better.Tie as tie
-use Rattle.table.proofs.better.Reads as reads
-use Rattle.table.proofs.better.Lts as lts
-use Rattle.table.proofs.is_about.Reads as is-about-reads
-use Rattle.table.proofs.own.Reads as own-reads
 
 own-requires : tie.Need-own-requires
 own-requires c κs = search needs

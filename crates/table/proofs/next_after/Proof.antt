@@ -3,8 +3,6 @@ use borrow.Author.Tests.{eq-eqb, ne-eqb}
 use borrow.Author.Needs.{needs}
 use Rattle.table.proofs.next_after.Statement.{statement}
 use Rattle.table.proofs.next_after.Tie as tie
-use Rattle.table.proofs.next_after.Reads as reads
-use Rattle.table.proofs.next_after.Lts as lts
 
 add-result : tie.Need-add-result
 add-result c = search needs

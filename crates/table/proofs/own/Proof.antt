@@ -1,9 +1,6 @@
 -- Each arm is that of the test.
-use borrow.Author.Needs.{needs}
 use Rattle.table.proofs.own.Statement.{statement}
 use Rattle.table.proofs.own.Tie as tie
-use Rattle.table.proofs.own.Reads as reads
-use Rattle.table.proofs.own.Lts as lts
 
 returns : tie.Need-returns
 returns c = rw (c .if1 .taken)

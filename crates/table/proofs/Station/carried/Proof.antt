@@ -2,9 +2,6 @@
 use borrow.Author.Needs.{needs}
 use Rattle.table.proofs.Station.carried.Statement.{statement}
 use Rattle.table.proofs.Station.carried.Tie as tie
-use Rattle.table.proofs.Station.carried.Reads as reads
-use Rattle.table.proofs.Station.carried.Lts as lts
-use Rattle.table.proofs.Station.put.Reads as put-reads
 
 put-requires : tie.Need-put-requires
 put-requires c κs = search needs

@@ -1,8 +1,8 @@
 -- What is found from here on is what is found in all.
-use Prim.Native.Nat.{ℕ, _≤_, _<_, _-_, _+_}
+use Prim.Native.Nat.{_≤_, _-_}
 use mathlib.Core.Path.{_≡_, refl, _∙_, sym}
 use native.Mathlib.Omega.{arith}
-use lib.ListN.{length, getD, drop}
+use lib.ListN.{drop}
 use Rattle.table.specs.Events.{about}
 use Rattle.table.specs.Numbers.{blank}
 use Rattle.table.specs.Table.{find, findFrom}
@@ -10,9 +10,6 @@ use Rattle.table.proofs.Finding.{find-here, find-past, find-end}
 use borrow.Author.Needs.{needs}
 use Rattle.table.proofs.Station.find.Statement.{statement}
 use Rattle.table.proofs.Station.find.Tie as tie
-use Rattle.table.proofs.Station.find.Reads as reads
-use Rattle.table.proofs.Station.find.Lts as lts
-use Rattle.table.proofs.is_about.Reads as is-about-reads
 
 abbrev Inv-loop : tie.InvT-loop
 Inv-loop e self kind key i₀ i = (i ≤ 64) × (findFrom (about e) i (drop i (self .entries)) ≡ find (about e) self)

@@ -1,6 +1,6 @@
 -- The search from here on issues what the whole search issues.
 use borrow.Author.Tests.{not-true, not-false}
-use Prim.Native.Nat.{ℕ, _<_}
+use Prim.Native.Nat.{_<_}
 use mathlib.Core.Path.{_≡_, _∙_, sym}
 use Rattle.table.specs.Numbers.{issueFrom}
 use Rattle.table.specs.Step.{issue}
@@ -8,10 +8,6 @@ use Rattle.table.proofs.Issuing.{next-small, issue-free, issue-used, is
 use borrow.Author.Needs.{needs}
 use Rattle.table.proofs.Station.issue.Statement.{statement}
 use Rattle.table.proofs.Station.issue.Tie as tie
-use Rattle.table.proofs.Station.issue.Reads as reads
-use Rattle.table.proofs.Station.issue.Lts as lts
-use Rattle.table.proofs.Station.uses.Reads as uses-reads
-use Rattle.table.proofs.next_after.Reads as next-after-reads
 
 abbrev Inv-loop : tie.InvT-loop
 Inv-loop self id₀ most₀ id most = (id < 4096) × (issueFrom most id (self .entries) ≡ issue self)

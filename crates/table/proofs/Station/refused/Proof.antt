@@ -2,9 +2,6 @@
 use borrow.Author.Needs.{needs}
 use Rattle.table.proofs.Station.refused.Statement.{statement}
 use Rattle.table.proofs.Station.refused.Tie as tie
-use Rattle.table.proofs.Station.refused.Reads as reads
-use Rattle.table.proofs.Station.refused.Lts as lts
-use Rattle.table.proofs.silence.Reads as silence-reads
 
 silence-requires : tie.Need-silence-requires
 silence-requires c κs = search needs

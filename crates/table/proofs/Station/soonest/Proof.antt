@@ -1,19 +1,15 @@
 -- The soonest of what was looked at, and then of what is left, is the soonest of all.
 use borrow.Author.Tests.{eq-eqb, ne-eqb}
-use Prim.Native.Nat.{ℕ, _≤_, _<_, _-_, _+_}
-use mathlib.Core.Path.{_≡_, refl, _∙_, sym}
+use Prim.Native.Nat.{_≤_, _-_}
+use mathlib.Core.Path.{_≡_, _∙_, sym}
 use native.Mathlib.Omega.{arith}
-use lib.ListN.{length, getD, drop}
+use lib.ListN.{drop}
 use Rattle.table.specs.Numbers.{blank}
 use Rattle.table.specs.Table.{dueFrom, soonest}
 use Rattle.table.proofs.Finding.{due-past, due-end}
 use borrow.Author.Needs.{needs}
 use Rattle.table.proofs.Station.soonest.Statement.{statement}
 use Rattle.table.proofs.Station.soonest.Tie as tie
-use Rattle.table.proofs.Station.soonest.Reads as reads
-use Rattle.table.proofs.Station.soonest.Lts as lts
-use Rattle.table.proofs.better.Reads as better-reads
-use Rattle.table.proofs.blank.Reads as blank-reads
 
 abbrev Inv-loop : tie.InvT-loop
 Inv-loop e self kind key best₀ i₀ best i = (i ≤ 64) × (dueFrom e best i (drop i (self .entries)) ≡ soonest e self)

@@ -1,25 +1,16 @@
 -- What is found is a place of the table, and its decision is carried out there.
-use Prim.Native.Nat.{ℕ, _<_, _+_}
-use mathlib.Core.Path.{_≡_, _∙_, sym, subst}
+use Prim.Native.Nat.{_<_}
+use mathlib.Core.Path.{_≡_, _∙_, sym}
 use native.Mathlib.Nat.{add-zero}
 use native.Mathlib.Omega.{arith}
-use lib.ListN.{getD}
-use Rattle.table.specs.declared.Decision.{Decision}
-use Rattle.table.specs.declared.Found.the-variants.{At, Nothing}
-use Rattle.table.specs.Events.{about, decide}
-use Rattle.table.specs.Numbers.{isFree, blank}
-use Rattle.table.specs.Step.{aboutOne, tickAt, carried}
-use Rattle.table.specs.Table.{find, soonest, Puts}
-use Rattle.table.proofs.Placing.{found-place, due-place, decided-puts}
+use Rattle.table.specs.declared.Found.the-variants.{At}
+use Rattle.table.specs.Numbers.{isFree}
+use Rattle.table.specs.Step.{carried}
+use Rattle.table.specs.Table.{find}
+use Rattle.table.proofs.Placing.{found-place}
 use borrow.Author.Needs.{needs}
 use Rattle.table.proofs.Station.start.Statement.{statement}
 use Rattle.table.proofs.Station.start.Tie as tie
-use Rattle.table.proofs.Station.start.Reads as reads
-use Rattle.table.proofs.Station.start.Lts as lts
-use Rattle.table.proofs.Station.issue.Reads as issue-reads
-use Rattle.table.proofs.Station.refused.Reads as refused-reads
-use Rattle.table.proofs.Station.vacant.Reads as vacant-reads
-use Rattle.table.proofs.message.Reads as message-reads
 
 here : (c : tie.After-known-told) → find isFree (c .before .before .before .before .args .t1) ≡ At (c .before .found .given .0 .0)
 here c = sym (c .before .before .before .vacant .ensures) ∙ c .before .found .given .1

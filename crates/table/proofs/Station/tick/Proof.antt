@@ -1,25 +1,17 @@
 -- What is found is a place of the table, and its decision is carried out there.
-use Prim.Native.Nat.{ℕ, _<_, _+_}
+use Prim.Native.Nat.{_<_}
 use borrow.Author.Tests.{lt-ltb, le-ltb}
 use mathlib.Core.Path.{_≡_, _∙_, sym, subst}
 use native.Mathlib.Omega.{arith}
-use lib.ListN.{getD}
 use Rattle.table.specs.declared.Decision.{Decision}
-use Rattle.table.specs.declared.Found.the-variants.{At, Nothing}
-use Rattle.table.specs.Events.{about, decide}
-use Rattle.table.specs.Numbers.{blank}
-use Rattle.table.specs.Step.{aboutOne, tickAt, carried}
-use Rattle.table.specs.Table.{find, soonest, at, Puts}
-use Rattle.table.proofs.Placing.{found-place, due-place, decided-puts, puts-at}
+use Rattle.table.specs.declared.Found.the-variants.{At}
+use Rattle.table.specs.Events.{decide}
+use Rattle.table.specs.Step.{carried}
+use Rattle.table.specs.Table.{soonest, at, Puts}
+use Rattle.table.proofs.Placing.{due-place, decided-puts, puts-at}
 use borrow.Author.Needs.{needs}
 use Rattle.table.proofs.Station.tick.Statement.{statement}
 use Rattle.table.proofs.Station.tick.Tie as tie
-use Rattle.table.proofs.Station.tick.Reads as reads
-use Rattle.table.proofs.Station.tick.Lts as lts
-use Rattle.table.proofs.Station.carried.Reads as carried-reads
-use Rattle.table.proofs.Station.refused.Reads as refused-reads
-use Rattle.table.proofs.Station.soonest.Reads as soonest-reads
-use Rattle.table.proofs.decide.Reads as decide-reads
 
 here : (c : tie.After-known-told) → soonest (c .before .before .before .before .before .before .args .e) (c .before .before .before .before .before .before .args .t1) ≡ At (c .before .found .given .0 .0)
 here c = sym (c .before .before .before .soonest .ensures) ∙ c .before .found .given .1

@@ -1,16 +1,13 @@
 -- Whether a record from here on has the number is whether any has.
-use Prim.Native.Nat.{ℕ, _≤_, _<_, _-_, _+_}
+use Prim.Native.Nat.{_≤_, _-_}
 use mathlib.Core.Path.{_≡_, refl, _∙_, sym}
 use native.Mathlib.Omega.{arith}
-use lib.ListN.{length, getD, drop}
+use lib.ListN.{drop}
 use Rattle.table.specs.Numbers.{anyOf, blank, ownIs}
 use Rattle.table.proofs.Finding.{any-here, any-past, any-end}
 use borrow.Author.Needs.{needs}
 use Rattle.table.proofs.Station.uses.Statement.{statement}
 use Rattle.table.proofs.Station.uses.Tie as tie
-use Rattle.table.proofs.Station.uses.Reads as reads
-use Rattle.table.proofs.Station.uses.Lts as lts
-use Rattle.table.proofs.own_is.Reads as own-is-reads
 
 abbrev Inv-loop : tie.InvT-loop
 Inv-loop id self i₀ i = (i ≤ 64) × (anyOf (ownIs id) (drop i (self .entries)) ≡ anyOf (ownIs id) (self .entries))

@@ -1,17 +1,15 @@
 -- What is found from here on is what is found in all.
 use borrow.Author.Tests.{eq-eqb, ne-eqb}
-use Prim.Native.Nat.{ℕ, _≤_, _<_, _-_, _+_}
+use Prim.Native.Nat.{_≤_, _-_}
 use mathlib.Core.Path.{_≡_, refl, _∙_, sym}
 use native.Mathlib.Omega.{arith}
-use lib.ListN.{length, getD, drop}
+use lib.ListN.{drop}
 use Rattle.table.specs.Numbers.{isFree, blank}
 use Rattle.table.specs.Table.{find, findFrom}
 use Rattle.table.proofs.Finding.{find-here, find-past, find-end}
 use borrow.Author.Needs.{needs}
 use Rattle.table.proofs.Station.vacant.Statement.{statement}
 use Rattle.table.proofs.Station.vacant.Tie as tie
-use Rattle.table.proofs.Station.vacant.Reads as reads
-use Rattle.table.proofs.Station.vacant.Lts as lts
 
 abbrev Inv-loop : tie.InvT-loop
 Inv-loop self i₀ i = (i ≤ 64) × (findFrom isFree i (drop i (self .entries)) ≡ find isFree self)

@@ -1,0 +1,135 @@
+-- The four ways in which a station changes leave it sound.
+use Prim.Native.Nat.{ℕ, _+_, _≤_, _<_}
+use mathlib.Core.Path.{_≡_, refl, _∙_, subst}
+use mathlib.Core.Bool.{true, cond}
+use mathlib.Core.List.{map}
+use borrow.Author.Tests.{eqb-true, eqb-false}
+use native.Mathlib.Omega.{arith}
+use lib.Dec.{eqb}
+use lib.ListN.{length, getD, set, length-set, length-map, List·getD-map}
+use lib.Seq.{getD-set-same, getD-set-other}
+use Rattle.laws.proofs.Tests.{by-cases}
+use Rattle.records.specs.declared.Record.{Record}
+use Rattle.table.specs.declared.Entry.{Entry}
+use Rattle.table.specs.declared.Station.{Station}
+use Rattle.table.specs.Events.{about}
+use Rattle.table.specs.Numbers.{isFree, blank}
+use Rattle.table.specs.Sound.{Fit, Sound, ownTimes, heldTimes}
+use Rattle.table.specs.Table.{at, put, add, reset, tally}
+use Rattle.table.proofs.Fits.{fit-blank}
+use Rattle.table.proofs.Tally.{tally-at, tally-set, tally-map, tally-equal, tally-le, tally-add}
+
+module _ (s : Station) (sound : Sound s) where
+  -- The clock may be any time up to the greatest.
+  pub sound-at : (time : ℕ) → time ≤ 1000000000000 → Sound (at time s)
+  sound-at time small =
+      record {
+        places = sound .places;
+        fit = sound .fit;
+        distinct = sound .distinct;
+        unique = sound .unique;
+        sum = sound .sum;
+        capacity = sound .capacity;
+        clock = small;
+        last = sound .last;
+        prep = sound .prep;
+        overall = sound .overall;
+        guard = sound .guard;
+      }
+
+  module _ (i : ℕ) (r : Entry) (place : i < 64) (fit : Fit r) where
+    inside : i < length (s .entries)
+    inside = omega (arith, sound .places)
+
+    -- Where one record is replaced by one that fits, every record does.
+    fit-set : (j : ℕ) → j < 64 → Fit (getD (set (s .entries) i r) j blank)
+    fit-set j h =
+        by-cases (eqb j i)
+        (λ t. rw (eqb-true j i t, getD-set-same (s .entries) i r blank inside) fit)
+        (λ t. rw (getD-set-other (s .entries) i j r blank (eqb-false j i t)) (sound .fit j h))
+
+    -- A record may be replaced by one that has no other own ID, is not newly held and has no more units.
+    pub sound-put :
+        ((k : ℕ) → ownTimes k r ≤ ownTimes k (getD (s .entries) i blank))
+        → ((n o : ℕ) → heldTimes n o r ≤ heldTimes n o (getD (s .entries) i blank))
+        → r .units ≤ getD (s .entries) i blank .units
+        → Sound (put i r s)
+    sound-put own held units =
+        let changed = tally-set (λ x. x .units) (s .entries) i r blank inside in
+        let back = tally-at (λ x. x .units) (s .entries) i blank inside in
+        record {
+          places = length-set (s .entries) i r ∙ sound .places;
+          fit = fit-set;
+          distinct = λ k. omega (arith, own k, sound .distinct k, tally-set (ownTimes k) (s .entries) i r blank inside);
+          unique = λ n o. omega (arith, held n o, sound .unique n o, tally-set (heldTimes n o) (s .entries) i r blank inside);
+          sum = omega (arith, sound .sum);
+          capacity = omega (arith, sound .sum, sound .capacity);
+          clock = sound .clock;
+          last = sound .last;
+          prep = sound .prep;
+          overall = sound .overall;
+          guard = sound .guard;
+        }
+
+    -- A record may be made at a free place, whose own ID, and if it is held whose neighbour and Old ID, no other has, and whose
+    -- units are free.
+    pub sound-add : (issued : ℕ) → issued < 4096 → isFree (getD (s .entries) i blank) ≡ true
+        → ((k : ℕ) → tally (ownTimes k) (s .entries) + ownTimes k r ≤ 1)
+        → ((n o : ℕ) → tally (heldTimes n o) (s .entries) + heldTimes n o r ≤ 1)
+        → s .used + r .units ≤ s .capacity
+        → Sound (add i issued r s)
+    sound-add issued small free own held units =
+        let changed = tally-set (λ x. x .units) (s .entries) i r blank inside in
+        let empty = sound .fit i place .idle free in
+        record {
+          places = length-set (s .entries) i r ∙ sound .places;
+          fit = fit-set;
+          distinct = λ k. omega (arith, own k, tally-set (ownTimes k) (s .entries) i r blank inside);
+          unique = λ n o. omega (arith, held n o, tally-set (heldTimes n o) (s .entries) i r blank inside);
+          sum = omega (arith, sound .sum, rw empty at changed);
+          capacity = (units, sound .capacity .1);
+          clock = sound .clock;
+          last = small;
+          prep = sound .prep;
+          overall = sound .overall;
+          guard = sound .guard;
+        }
+
+  -- The records of a neighbour may end.
+  pub sound-reset : (e : Record) → Sound (reset e s)
+  sound-reset e =
+      record {
+        places = length-map (s .entries) left ∙ sound .places;
+        fit = λ i h. rw (left-at i) (left-fits (getD (s .entries) i blank) (sound .fit i h));
+        distinct = λ k. omega (arith, sound .distinct k, fewer (ownTimes k) refl);
+        unique = λ n o. omega (arith, sound .unique n o, fewer (heldTimes n o) refl);
+        sum = omega (arith, sound .sum, parts);
+        capacity = omega (arith, sound .capacity);
+        clock = sound .clock;
+        last = sound .last;
+        prep = sound .prep;
+        overall = sound .overall;
+        guard = sound .guard;
+      }
+    where
+      left : Entry → Entry
+      left r = cond (about e r) blank r
+
+      left-fits : (r : Entry) → Fit r → Fit (left r)
+      left-fits r fit = by-cases (about e r) (λ t. rw t fit-blank) (λ t. rw t fit)
+
+      left-at : (i : ℕ) → getD (map left (s .entries)) i blank ≡ left (getD (s .entries) i blank)
+      left-at i =
+          let same : left blank ≡ blank = by-cases (about e blank) (λ t. rw t) (λ t. rw t) in
+          subst (λ d. getD (map left (s .entries)) i d ≡ left (getD (s .entries) i blank)) same (List·getD-map left (s .entries) i blank)
+
+      fewer : (f : Entry → ℕ) → f blank ≡ 0 → tally f (map left (s .entries)) ≤ tally f (s .entries)
+      fewer f none =
+          rw (tally-map f left (s .entries))
+          (tally-le (λ r. f (left r)) f (s .entries) (λ r. by-cases (about e r) (λ t. rw t (omega arith)) (λ t. rw t (omega arith))))
+
+      parts : tally (λ r. r .units) (s .entries) ≡ tally (λ r. cond (about e r) (r .units) 0) (s .entries) + tally (λ r. r .units) (map left (s .entries))
+      parts =
+          let ended : Entry → ℕ = λ r. cond (about e r) (r .units) 0 in
+          let each = tally-equal (λ r. r .units) (λ r. ended r + left r .units) (s .entries) (λ r. by-cases (about e r) (λ t. rw t (omega arith)) (λ t. rw t (omega arith))) in
+          omega (arith, tally-add ended (λ r. left r .units) (s .entries), tally-map (λ r. r .units) left (s .entries))

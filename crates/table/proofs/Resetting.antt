@@ -1,0 +1,124 @@
+-- A table of which the first records have been reset.
+use Prim.Native.Nat.{ℕ, suc, _+_, _-_, _≤_, _<_}
+use mathlib.Core.Path.{_≡_, refl, _∙_, sym, ap}
+use mathlib.Core.Bool.{cond}
+use mathlib.Core.List.{List, [], _∷_, _++_, map, map-append, append-nil}
+use native.Mathlib.Numerals.{add-one}
+use native.Mathlib.Omega.{arith}
+use lib.ListN.{length, getD, set, take, drop, length-append, length-drop, length-map, length-take, take-append-drop, drop-of-length-le}
+use lib.Seq.{drop-cons, take-suc, set-at, getD-at, length-take-le, take-all, append-snoc}
+use Rattle.laws.proofs.Tests.{by-cases}
+use Rattle.records.specs.declared.Record.{Record}
+use Rattle.table.specs.declared.Entry.{Entry}
+use Rattle.table.specs.declared.Station.{Station}
+use Rattle.table.specs.Events.{key, about}
+use Rattle.table.specs.Numbers.{blank}
+use Rattle.table.specs.Sound.{Sound}
+use Rattle.table.specs.Table.{tally, Puts, endedBy, reset}
+use Rattle.table.proofs.Tally.{tally-append, tally-le}
+
+-- what a reset makes of a record, and the units that it gives back
+abbrev pub after : Record → Entry → Entry
+after e r = cond (about e r) blank r
+
+abbrev pub back : Record → Entry → ℕ
+back e r = cond (about e r) (r .units) 0
+
+-- the station with the records before a place reset
+abbrev pub partly : Record → ℕ → Station → Station
+partly e i s =
+    record {
+      entries = map (after e) (take i (s .entries)) ++ drop i (s .entries);
+      clock = s .clock;
+      last = s .last;
+      used = s .used - tally (back e) (take i (s .entries));
+      capacity = s .capacity;
+      prep = s .prep;
+      overall = s .overall;
+      guard = s .guard;
+    }
+
+same-station : (s : Station) {xs ys : List Entry} {m n : ℕ} → xs ≡ ys → m ≡ n → _≡_ {A = Station} (record { entries = xs; clock = s .clock; last = s .last; used = m; capacity = s .capacity; prep = s .prep; overall = s .overall; guard = s .guard }) (record { entries = ys; clock = s .clock; last = s .last; used = n; capacity = s .capacity; prep = s .prep; overall = s .overall; guard = s .guard })
+same-station s p q = λ i. record { entries = p i; clock = s .clock; last = s .last; used = q i; capacity = s .capacity; prep = s .prep; overall = s .overall; guard = s .guard }
+
+-- ---- a list of which the first elements have been changed
+
+module _ (f : Entry → Entry) (es : List Entry) (i : ℕ) (h : i < length es) where
+  changed-length : length (map f (take i es)) ≡ i
+  changed-length = length-map (take i es) f ∙ length-take-le i es (omega arith)
+
+  changed-here : getD (map f (take i es) ++ drop i es) i blank ≡ getD es i blank
+  changed-here = rw (drop-cons es i blank h) (getD-at (map f (take i es)) (getD es i blank) (drop (suc i) es) blank i changed-length)
+
+  changed-next : map f (take (i + 1) es) ++ drop (i + 1) es ≡ map f (take i es) ++ f (getD es i blank) ∷ drop (suc i) es
+  changed-next = rw (add-one, take-suc es i blank h, map-append) (append-snoc (map f (take i es)) (f (getD es i blank)) (drop (suc i) es))
+
+  changed-set : (r : Entry) → set (map f (take i es) ++ drop i es) i r ≡ map f (take i es) ++ r ∷ drop (suc i) es
+  changed-set r = rw (drop-cons es i blank h) (set-at (map f (take i es)) (getD es i blank) (drop (suc i) es) r i changed-length)
+
+-- The sum over one element more.
+tally-next : (g : Entry → ℕ) (es : List Entry) (i : ℕ) → i < length es → tally g (take (i + 1) es) ≡ tally g (take i es) + g (getD es i blank)
+unfolding tally
+tally-next g es i h = rw (add-one, take-suc es i blank h, tally-append g (take i es) (getD es i blank ∷ [])) (omega arith)
+
+module _ (e : Record) (s : Station) (sound : Sound s) where
+  -- Before the first place nothing is reset, after the last all.
+  pub partly-none : s ≡ partly e 0 s
+  unfolding tally
+  partly-none = same-station s refl (omega arith)
+
+  pub partly-all : partly e 64 s ≡ reset e s
+  partly-all =
+      let all : length (s .entries) ≤ 64 = omega (arith, sound .places) in
+      same-station s
+      (rw (take-all 64 (s .entries) all, drop-of-length-le (s .entries) all) (append-nil (map (after e) (s .entries))))
+      (rw (take-all 64 (s .entries) all))
+
+  module _ (i : ℕ) (h : i < 64) where
+    inside : i < length (s .entries)
+    inside = omega (arith, sound .places)
+
+    -- The units given back so far and this record's are in use.
+    enough : tally (back e) (take i (s .entries)) + getD (s .entries) i blank .units ≤ s .used
+    enough =
+        let units : Entry → ℕ = λ r. r .units in
+        let le : (r : Entry) → back e r ≤ units r = λ r. by-cases (about e r) (λ t. rw t (omega arith)) (λ t. rw t (omega arith)) in
+        omega (
+          arith,
+          sound .sum,
+          ap (tally units) (take-append-drop (i + 1) (s .entries)),
+          tally-append units (take (i + 1) (s .entries)) (drop (i + 1) (s .entries)),
+          tally-next units (s .entries) i inside,
+          tally-le (back e) units (take i (s .entries)) le,
+        )
+
+    pub partly-puts : Puts i blank (partly e i s)
+    partly-puts =
+        record {
+          place = h;
+          places = simp (length-append, length-map, length-take, length-drop) (omega (arith, sound .places));
+          back = rw (changed-here (after e) (s .entries) i inside) (omega (arith, enough));
+          out = omega (arith, sound .capacity);
+        }
+
+    -- Ending the record at the place, if the reset is about it, gives the next.
+    pub partly-next : endedBy (key (e .kind)) i e (partly e i s) ≡ partly e (i + 1) s
+    partly-next =
+        let es = s .entries in
+        let r = getD es i blank in
+        let joined : Entry → List Entry = λ x. map (after e) (take i es) ++ x ∷ drop (suc i) es in
+        by-cases (about e r)
+        (λ t.
+        let gone : after e r ≡ blank = rw t in
+        let given : back e r ≡ r .units = rw t in
+        rw (changed-here (after e) es i inside, t)
+        (same-station s
+        (changed-set (after e) es i inside blank ∙ sym (changed-next (after e) es i inside ∙ ap joined gone))
+        (omega (arith, given, tally-next (back e) es i inside, enough))))
+        (λ t.
+        let stays : after e r ≡ r = rw t in
+        let none : back e r ≡ 0 = rw t in
+        rw (changed-here (after e) es i inside, t)
+        (same-station s
+        (ap (λ (l : List Entry). map (after e) (take i es) ++ l) (drop-cons es i blank inside) ∙ sym (changed-next (after e) es i inside ∙ ap joined stays))
+        (omega (arith, none, tally-next (back e) es i inside))))

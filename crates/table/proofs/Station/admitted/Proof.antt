@@ -1,0 +1,109 @@
+-- Where a place is free, the judgement says whether the bearers could be judged; where none is, a look at them does.
+use Prim.Native.Nat.{_-_, _/_, _≤_}
+use mathlib.Core.Bool.{true}
+use mathlib.Core.Path.{_≡_, _∙_, sym, ap, subst}
+use lib.ListN.{length}
+use Rattle.bearers.specs.Admission.{judgeable, admissionOf, release8}
+use Rattle.bearers.specs.Bearer.{bearersIn}
+use Rattle.bearers.specs.declared.Admission.{Admission}
+use Rattle.table.specs.declared.Found.the-variants.{At, Nothing}
+use Rattle.table.specs.Numbers.{isFree}
+use Rattle.table.specs.Step.{grantAt}
+use Rattle.table.specs.Table.{find}
+use Rattle.table.proofs.Placing.{found-place}
+use Rattle.table.proofs.Requests.{given, malformed, units-free}
+use borrow.Author.Needs.{needs}
+use Rattle.table.proofs.Station.admitted.Statement.{statement}
+use Rattle.table.proofs.Station.admitted.Tie as tie
+
+-- the free place that was found
+here : (c : tie.After-known-told) → find isFree (c .before .before .before .before .before .before .args .self) ≡ At (c .before .found .given .0 .0)
+here c = sym (c .before .before .before .vacant .ensures) ∙ c .before .found .given .1
+
+-- what was admitted, and that the bearers could be judged
+judged : (c : tie.After-known-told2) → let a = c .before .before .before .before .before .before .before .before .before .before .before .before .before .before .args in (judgeable (a .bearers .now) (length (a .verdicts .now)) ≡ true) × (admissionOf release8 (a .self .capacity - a .self .used) (bearersIn (length (a .bearers .now) / 32) (a .bearers .now)) ≡ c .before .judged .given .0 .0)
+judged c =
+    let a = c .before .before .before .before .before .before .before .before .before .before .before .before .before .before .args in
+    given (a .bearers .now) (a .self .capacity - a .self .used) (length (a .verdicts .now)) _ (sym (c .before .before .before .before .before .admit .ensures .0) ∙ c .before .judged .given .1)
+
+vacant-requires : tie.Need-vacant-requires
+vacant-requires c κs = search needs
+
+enum-known-found : tie.Need-enum-known-found
+enum-known-found c = search needs
+
+sub-admit : tie.Need-sub-admit
+sub-admit c = search needs
+
+admit-requires : tie.Need-admit-requires
+admit-requires c κs = search needs
+
+enum-known-judged : tie.Need-enum-known-judged
+enum-known-judged c = search needs
+
+grant-requires : tie.Need-grant-requires
+grant-requires c κs =
+    let a = c .before .before .before .before .before .before .before .before .before .before .before .before .before .before .args in (
+      found-place (a .self) (c .before .before .before .before .before .before .before .before .before .before .before .before .before .before .pre) isFree _ (here (c .before .before .before .before .before .before .before .before)),
+      subst (λ (x : Admission). x .units ≤ a .self .capacity - a .self .used) (judged c .1) (units-free (a .bearers .now) (a .self .capacity - a .self .used) (length (a .verdicts .now)) (judged c .0)),
+      c .before .before .before .before .before .before .before .before .before .before .before .before .before .before .pre,
+    )
+
+enum-told : tie.Need-enum-told
+enum-told c = search needs
+
+refused-requires : tie.Need-refused-requires
+refused-requires c κs = search needs
+
+enum-told-2 : tie.Need-enum-told-2
+enum-told-2 c = search needs
+
+full-requires : tie.Need-full-requires
+full-requires c κs = search needs
+
+same-length : tie.Need-same-length
+same-length c = search needs
+
+returns : tie.Need-returns
+returns c = (
+  rw (judged (c .before) .0, here (c .before .before .before .before .before .before .before .before .before)) (c .grant .ensures ∙ ap (λ (x : Admission). grantAt (c .before .before .before .before .before .before .before .before .before .before .before .before .before .before .before .args .e) x (c .before .before .before .before .before .before .before .before .before .before .found .given .0 .0) (c .before .before .before .before .before .before .before .before .before .before .before .before .before .before .before .args .self)) (sym (judged (c .before) .1))),
+  rw (judged (c .before) .0, here (c .before .before .before .before .before .before .before .before .before)) (c .before .before .before .before .before .before .admit .ensures .1 ∙ rw (judged (c .before) .0)),
+)
+
+same-length-2 : tie.Need-same-length-2
+same-length-2 c = search needs
+
+returns-2 : tie.Need-returns-2
+returns-2 c =
+    let a = c .before .before .before .before .before .before .before .before .before .before .before .before .before .before .args in
+    let bad = malformed (a .bearers .now) (a .self .capacity - a .self .used) (length (a .verdicts .now)) (sym (c .before .before .before .before .before .admit .ensures .0) ∙ c .before .enum-told .given .1) in
+    (rw bad (c .refused .ensures), rw bad (c .before .before .before .before .before .admit .ensures .1 ∙ rw bad))
+
+same-length-3 : tie.Need-same-length-3
+same-length-3 c = search needs
+
+returns-3 : tie.Need-returns-3
+returns-3 c =
+    let none : find isFree (c .before .before .before .before .before .before .before .before .before .args .self) ≡ Nothing = sym (c .before .before .before .before .before .before .vacant .ensures) ∙ c .before .before .before .before .enum-told2 .given .1 in
+    (rw none (c .before .before .full .ensures .0), rw none (c .before .before .full .ensures .1))
+
+pub admitted-spec : {M : Type 1} → statement M
+admitted-spec =
+    tie.close
+    (tie.spec
+    vacant-requires
+    enum-known-found
+    sub-admit
+    admit-requires
+    enum-known-judged
+    grant-requires
+    enum-told
+    refused-requires
+    enum-told-2
+    full-requires
+    same-length
+    returns
+    same-length-2
+    returns-2
+    same-length-3
+    returns-3)

@@ -1,0 +1,13 @@
+-- Field by field.
+use borrow.Author.Needs.{needs}
+use Rattle.table.proofs.Station.failure.Statement.{statement}
+use Rattle.table.proofs.Station.failure.Tie as tie
+
+message-requires : tie.Need-message-requires
+message-requires c κs = search needs
+
+returns : tie.Need-returns
+returns c = rw (c .message .ensures)
+
+pub failure-spec : {M : Type 1} → statement M
+failure-spec = tie.close (tie.spec message-requires returns)

@@ -1,0 +1,83 @@
+-- Too few bytes; a repeated request, of which only the bearers are looked at; or one to be judged.
+use borrow.Author.Tests.{le-leb, lt-leb}
+use Prim.Native.Nat.{_*_}
+use mathlib.Core.Path.{_∙_, sym}
+use native.Mathlib.Omega.{arith}
+use lib.ListN.{length}
+use lib.Seq.{length-take-le}
+use borrow.Author.Needs.{needs}
+use Rattle.table.proofs.Station.requested.Statement.{statement}
+use Rattle.table.proofs.Station.requested.Tie as tie
+
+cast-size : tie.Need-cast-size
+cast-size c = search needs
+
+mul-size : tie.Need-mul-size
+mul-size c = search needs
+
+refused-requires : tie.Need-refused-requires
+refused-requires c κs = search needs
+
+returns : tie.Need-returns
+returns c = (rw (lt-leb (c .before .before .before .before .before .args .e .number * 32) (length (c .before .before .before .before .before .args .bearers .now)) (c .before .if1 .taken)) (c .refused .ensures), rw (lt-leb (c .before .before .before .before .before .args .e .number * 32) (length (c .before .before .before .before .before .args .bearers .now)) (c .before .if1 .taken)))
+
+find-requires : tie.Need-find-requires
+find-requires c κs = search needs
+
+enum-told : tie.Need-enum-told
+enum-told c = search needs
+
+slice-aggregate-can-judge : tie.Need-slice-aggregate-can-judge
+slice-aggregate-can-judge c = sym (length-take-le _ (c .before .before .before .before .before .before .before .before .args .bearers .now) (omega arith))
+
+can-judge-requires : tie.Need-can-judge-requires
+can-judge-requires c κs = search needs
+
+refused-requires-2 : tie.Need-refused-requires-2
+refused-requires-2 c κs = search needs
+
+refused-requires-3 : tie.Need-refused-requires-3
+refused-requires-3 c κs = search needs
+
+enum-told-2 : tie.Need-enum-told-2
+enum-told-2 c = search needs
+
+slice-aggregate-admitted : tie.Need-slice-aggregate-admitted
+slice-aggregate-admitted c = sym (length-take-le _ (c .before .before .before .before .before .before .before .before .args .bearers .now) (omega arith))
+
+admitted-requires : tie.Need-admitted-requires
+admitted-requires c κs = search needs
+
+returns-2 : tie.Need-returns-2
+returns-2 c = (rw (le-leb (c .before .before .before .before .before .before .before .before .before .before .before .args .e .number * 32) (length (c .before .before .before .before .before .before .before .before .before .before .before .args .bearers .now)) (c .before .before .before .before .before .before .before .if1 .left), sym (c .before .before .can-judge .ensures) ∙ c .before .if2 .taken, sym (c .before .before .before .before .before .before .find .ensures) ∙ c .before .before .before .before .enum-told .given .1) (c .refused2 .ensures), rw (le-leb (c .before .before .before .before .before .before .before .before .before .before .before .args .e .number * 32) (length (c .before .before .before .before .before .before .before .before .before .before .before .args .bearers .now)) (c .before .before .before .before .before .before .before .if1 .left), sym (c .before .before .can-judge .ensures) ∙ c .before .if2 .taken, sym (c .before .before .before .before .before .before .find .ensures) ∙ c .before .before .before .before .enum-told .given .1))
+
+returns-3 : tie.Need-returns-3
+returns-3 c = (rw (le-leb (c .before .before .before .before .before .before .before .before .before .before .before .args .e .number * 32) (length (c .before .before .before .before .before .before .before .before .before .before .before .args .bearers .now)) (c .before .before .before .before .before .before .before .if1 .left), sym (c .before .before .can-judge .ensures) ∙ c .before .if2 .left) (c .refused3 .ensures), rw (le-leb (c .before .before .before .before .before .before .before .before .before .before .before .args .e .number * 32) (length (c .before .before .before .before .before .before .before .before .before .before .before .args .bearers .now)) (c .before .before .before .before .before .before .before .if1 .left), sym (c .before .before .can-judge .ensures) ∙ c .before .if2 .left))
+
+same-length : tie.Need-same-length
+same-length c = search needs
+
+returns-4 : tie.Need-returns-4
+returns-4 c = (rw (le-leb (c .before .before .before .before .before .before .before .before .before .before .before .before .args .e .number * 32) (length (c .before .before .before .before .before .before .before .before .before .before .before .before .args .bearers .now)) (c .before .before .before .before .before .before .before .before .if1 .left), sym (c .before .before .before .before .before .before .before .find .ensures) ∙ c .before .before .before .before .before .enum-told2 .given .1) (c .before .before .admitted .ensures .0), rw (le-leb (c .before .before .before .before .before .before .before .before .before .before .before .before .args .e .number * 32) (length (c .before .before .before .before .before .before .before .before .before .before .before .before .args .bearers .now)) (c .before .before .before .before .before .before .before .before .if1 .left), sym (c .before .before .before .before .before .before .before .find .ensures) ∙ c .before .before .before .before .before .enum-told2 .given .1) (c .before .before .admitted .ensures .1))
+
+pub requested-spec : {M : Type 1} → statement M
+requested-spec =
+    tie.close
+    (tie.spec
+    cast-size
+    mul-size
+    refused-requires
+    returns
+    find-requires
+    enum-told
+    slice-aggregate-can-judge
+    can-judge-requires
+    refused-requires-2
+    refused-requires-3
+    enum-told-2
+    slice-aggregate-admitted
+    admitted-requires
+    returns-2
+    returns-3
+    same-length
+    returns-4)
