@@ -1,6 +1,6 @@
 use borrow.Author.Needs.{needs}
-use Rattle.table.proofs.lists_fit.Statement.{statement}
-use Rattle.table.proofs.lists_fit.Tie as tie
+use Rattle.table.proofs.events.lists_fit.Statement.{statement}
+use Rattle.table.proofs.events.lists_fit.Tie as tie
 
 disjoint-requires : tie.Need-disjoint-requires
 disjoint-requires c κs = search needs

@@ -1,8 +1,8 @@
 -- Each arm is that of the test.
 use mathlib.Core.Path.{sym, _∙_}
 use borrow.Author.Needs.{needs}
-use Rattle.table.proofs.acknowledged.Statement.{statement}
-use Rattle.table.proofs.acknowledged.Tie as tie
+use Rattle.table.proofs.events.acknowledged.Statement.{statement}
+use Rattle.table.proofs.events.acknowledged.Tie as tie
 
 lists-fit-requires : tie.Need-lists-fit-requires
 lists-fit-requires c κs = search needs

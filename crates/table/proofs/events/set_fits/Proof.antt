@@ -1,6 +1,6 @@
 use borrow.Author.Needs.{needs}
-use Rattle.table.proofs.set_fits.Statement.{statement}
-use Rattle.table.proofs.set_fits.Tie as tie
+use Rattle.table.proofs.events.set_fits.Statement.{statement}
+use Rattle.table.proofs.events.set_fits.Tie as tie
 
 within-requires : tie.Need-within-requires
 within-requires c κs = search needs

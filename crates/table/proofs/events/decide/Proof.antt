@@ -2,8 +2,8 @@
 use borrow.Author.Tests.{eq-eqb, ne-eqb}
 use Rattle.table.specs.Events.{actionOf}
 use borrow.Author.Needs.{needs}
-use Rattle.table.proofs.decide.Statement.{statement}
-use Rattle.table.proofs.decide.Tie as tie
+use Rattle.table.proofs.events.decide.Statement.{statement}
+use Rattle.table.proofs.events.decide.Tie as tie
 
 cast-kind : tie.Need-cast-kind
 cast-kind c = search needs

@@ -1,6 +1,6 @@
 use borrow.Author.Needs.{needs}
-use Rattle.table.proofs.refusal.Statement.{statement}
-use Rattle.table.proofs.refusal.Tie as tie
+use Rattle.table.proofs.events.refusal.Statement.{statement}
+use Rattle.table.proofs.events.refusal.Tie as tie
 
 silence-requires : tie.Need-silence-requires
 silence-requires c κs = search needs

@@ -1,8 +1,8 @@
 -- Each arm is that of the tests in `lastWord`.
 use borrow.Author.Tests.{eq-eqb, ne-eqb}
 use borrow.Author.Needs.{needs}
-use Rattle.table.proofs.last_word.Statement.{statement}
-use Rattle.table.proofs.last_word.Tie as tie
+use Rattle.table.proofs.events.last_word.Statement.{statement}
+use Rattle.table.proofs.events.last_word.Tie as tie
 
 message-requires : tie.Need-message-requires
 message-requires c κs = search needs

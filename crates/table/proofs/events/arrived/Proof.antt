@@ -1,7 +1,7 @@
 -- Field by field.
 use borrow.Author.Needs.{needs}
-use Rattle.table.proofs.arrived.Statement.{statement}
-use Rattle.table.proofs.arrived.Tie as tie
+use Rattle.table.proofs.events.arrived.Statement.{statement}
+use Rattle.table.proofs.events.arrived.Tie as tie
 
 message-requires : tie.Need-message-requires
 message-requires c κs = search needs

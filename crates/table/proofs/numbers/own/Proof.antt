@@ -1,6 +1,6 @@
 -- Each arm is that of the test.
-use Rattle.table.proofs.own.Statement.{statement}
-use Rattle.table.proofs.own.Tie as tie
+use Rattle.table.proofs.numbers.own.Statement.{statement}
+use Rattle.table.proofs.numbers.own.Tie as tie
 
 returns : tie.Need-returns
 returns c = rw (c .if1 .taken)

@@ -1,8 +1,8 @@
 -- Each arm is that of the test.
 use mathlib.Core.Path.{sym, _∙_}
 use borrow.Author.Needs.{needs}
-use Rattle.table.proofs.status_sent.Statement.{statement}
-use Rattle.table.proofs.status_sent.Tie as tie
+use Rattle.table.proofs.events.status_sent.Statement.{statement}
+use Rattle.table.proofs.events.status_sent.Tie as tie
 
 set-fits-requires : tie.Need-set-fits-requires
 set-fits-requires c κs = search needs

@@ -1,7 +1,7 @@
 -- Each arm is that of the test.
 use borrow.Author.Tests.{eq-eqb, ne-eqb}
-use Rattle.table.proofs.reset_word.Statement.{statement}
-use Rattle.table.proofs.reset_word.Tie as tie
+use Rattle.table.proofs.events.reset_word.Statement.{statement}
+use Rattle.table.proofs.events.reset_word.Tie as tie
 
 returns : tie.Need-returns
 returns c = rw (eq-eqb (c .before .args .kind) 7 (c .if1 .taken))

@@ -2,8 +2,8 @@
 use borrow.Author.Tests.{le-leb, lt-leb, ne-eqb}
 use native.Mathlib.Omega.{arith}
 use borrow.Author.Needs.{needs}
-use Rattle.table.proofs.well_formed.Statement.{statement}
-use Rattle.table.proofs.well_formed.Tie as tie
+use Rattle.table.proofs.fields.well_formed.Statement.{statement}
+use Rattle.table.proofs.fields.well_formed.Tie as tie
 
 cast-kind : tie.Need-cast-kind
 cast-kind c = search needs
