@@ -5,7 +5,9 @@ pub mod Finding
 pub mod Fits
 pub mod Forms
 pub mod Issuing
+pub mod Keys
 pub mod Placing
+pub mod Replies
 pub mod Requests
 pub mod Resetting
 pub mod Soundness
