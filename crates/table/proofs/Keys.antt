@@ -1,13 +1,18 @@
 -- What it is for an event to be about a record.
 use Prim.Native.Nat.{ℕ, _≤_}
 use mathlib.Core.Path.{_≡_}
-use mathlib.Core.Bool.{true, _&&_, _||_}
+use mathlib.Core.Bool.{Bool, true, not, _&&_, _||_}
 use borrow.Author.Tests.{leb-true}
 use lib.Dec.{leb, eqb}
 use Rattle.laws.proofs.Tests.{both-true}
 use Rattle.records.specs.declared.Record.{Record}
 use Rattle.table.specs.declared.Entry.{Entry}
 use Rattle.table.specs.Events.{keyed, newFits}
+use Rattle.table.specs.Numbers.{isFree}
+
+-- whether a place holds a record of a neighbour
+abbrev pub isOf : ℕ → Entry → Bool
+isOf n r = not (isFree r) && eqb (r .neighbour) n
 
 -- The record's state is one of those looked at, and its neighbour is the event's where it is compared.
 pub record Keyed (by : ℕ → ℕ) (e : Record) (r : Entry) : Type 0 where

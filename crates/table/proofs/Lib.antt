@@ -11,4 +11,5 @@ pub mod Replies
 pub mod Requests
 pub mod Resetting
 pub mod Soundness
+pub mod Strangers
 pub mod Tally
