@@ -6,6 +6,7 @@ pub mod Fits
 pub mod Forms
 pub mod Issuing
 pub mod Keys
+pub mod Neighbours
 pub mod Placing
 pub mod Replies
 pub mod Requests
