@@ -7,6 +7,7 @@ pub mod Forms
 pub mod Issuing
 pub mod Keys
 pub mod Neighbours
+pub mod Orderless
 pub mod Placing
 pub mod Replies
 pub mod Requests

@@ -84,7 +84,7 @@ module _ (s : Station) (e : Record) (concerns : concernsNeighbour (e .kind) ≡ 
           subst (λ d. getD (map left (s .entries)) i d ≡ left (getD (s .entries) i blank)) same (List·getD-map left (s .entries) i blank)
 
 -- What holds of 7 and 14 holds of a reset's kind.
-reset-kind : (P : ℕ → Type 0) (k : ℕ) → P 7 → P 14 → (eqb k 7 || eqb k 14) ≡ true → P k
+pub reset-kind : (P : ℕ → Type 0) (k : ℕ) → P 7 → P 14 → (eqb k 7 || eqb k 14) ≡ true → P k
 reset-kind P k seven fourteen t =
     by-cases (eqb k 7) (λ u. rw (eqb-true k 7 u) seven) (λ u. rw (eqb-true k 14 (rw u at t)) fourteen)
 
@@ -103,7 +103,7 @@ module _ (s : Station) (e : Record) (bearers : List ℕ) (room : ℕ) (formed : 
       at-one Nothing = (0, λ _ _. refl)
       at-one (At k) = (k, λ i other. getD-set-other (s .entries) k i (decide e (getD (s .entries) k blank) (s .clock + s .overall) .entry) blank other)
 
-  step-reset : (eqb (e .kind) 7 || eqb (e .kind) 14) ≡ true → stepOf s e bearers room ≡ resetOf e s
+  pub step-reset : (eqb (e .kind) 7 || eqb (e .kind) 14) ≡ true → stepOf s e bearers room ≡ resetOf e s
   step-reset t =
       let other : (n : ℕ) → eqb 7 n ≡ false → eqb 14 n ≡ false → eqb (e .kind) n ≡ false = λ n x y. reset-kind (λ k. eqb k n ≡ false) (e .kind) x y t in
       rw (formed, other 1 refl refl, other 9 refl refl, other 15 refl refl, t)
@@ -131,7 +131,7 @@ find-same test (x ∷ xs) (y ∷ ys) i l same =
     rw (same 0 (omega arith), find-same test xs ys (i + 1) (omega arith) (λ j h. same (suc j) (omega arith)))
 
 -- The deadline that an acknowledge would set matters to an acknowledge alone.
-decide-deadline : (e : Record) (r : Entry) (c d : ℕ) → (e .kind ≡ 2 → c ≡ d) → decide e r c ≡ decide e r d
+pub decide-deadline : (e : Record) (r : Entry) (c d : ℕ) → (e .kind ≡ 2 → c ≡ d) → decide e r c ≡ decide e r d
 decide-deadline e r c d same =
     by-cases (eqb (e .kind) 2)
     (λ t. ap (decide e r) (same (eqb-true (e .kind) 2 t)))

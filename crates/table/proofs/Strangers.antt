@@ -26,12 +26,12 @@ abbrev pub concernsNeighbour : ℕ → Bool
 concernsNeighbour k = leb 1 k && leb k 7 || eqb k 14
 
 -- whether a test holds of each number below one
-abbrev below : (ℕ → Bool) → ℕ → Bool
+abbrev pub below : (ℕ → Bool) → ℕ → Bool
 below test zero = true
 below test (suc n) = test n && below test n
 
 -- Then it holds of any such number.
-below-at : (test : ℕ → Bool) (n k : ℕ) → below test n ≡ true → k < n → test k ≡ true
+pub below-at : (test : ℕ → Bool) (n k : ℕ) → below test n ≡ true → k < n → test k ≡ true
 below-at test zero k t h = absurd (omega arith)
 below-at test (suc n) k t h =
     let both = both-true (test n) (below test n) t in
