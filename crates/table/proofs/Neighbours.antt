@@ -1,14 +1,14 @@
 -- What a neighbour's message changes, and what its answer depends on.
 use Prim.Native.Nat.{ℕ, suc, _+_, _≤_, _<_}
 use mathlib.Core.Path.{_≡_, refl, _∙_, sym, ap, subst}
-use mathlib.Core.Bool.{Bool, true, false, cond, _||_, true≢false}
-use mathlib.Core.List.{List, [], _∷_, map}
-use borrow.Author.Tests.{eqb-true, eqb-false, eq-eqb, ne-eqb}
+use mathlib.Core.Bool.{Bool, true, false, not, _||_, true≢false}
+use mathlib.Core.List.{List, [], _∷_}
+use borrow.Author.Tests.{eqb-true, eqb-false, ne-eqb, not-true}
 use native.Mathlib.Omega.{arith}
 use lib.Dec.{eqb}
-use lib.ListN.{length, getD, set, List·getD-map}
+use lib.ListN.{length, getD, set}
 use lib.Seq.{getD-set-same, getD-set-other}
-use Rattle.laws.proofs.Tests.{by-cases}
+use Rattle.laws.proofs.Tests.{by-cases, both-true}
 use Rattle.records.specs.declared.Record.{Record}
 use Rattle.table.specs.declared.Answer.{Answer}
 use Rattle.table.specs.declared.Decision.{Decision}
@@ -18,20 +18,23 @@ use Rattle.table.specs.declared.Found.the-variants.{At, Nothing}
 use Rattle.table.specs.declared.Station.{Station}
 use Rattle.table.specs.Events.{about, actionOf, decide}
 use Rattle.table.specs.Fields.{wellFormed}
-use Rattle.table.specs.Numbers.{blank}
+use Rattle.table.specs.Numbers.{isFree, blank}
 use Rattle.table.specs.Sound.{Sound}
 use Rattle.table.specs.Step.{aboutOne, carried, resetOf, stepOf}
 use Rattle.table.specs.Table.{find, findFrom, put, reset}
 use Rattle.table.proofs.Deciding.{stands}
 use Rattle.table.proofs.Finding.{found-at}
+use Rattle.table.proofs.Fits.{decided-keeps}
 use Rattle.table.proofs.Keys.{isOf}
+use Rattle.table.proofs.Resetting.{reset-at}
 use Rattle.table.proofs.Strangers.{concernsNeighbour, about-of, answers-concern, step-about}
 
 -- ---- what it changes
 
--- one station is as another but for the records of a neighbour, and the units in use
+-- one station is as another but for the records of a neighbour, which stay its own or end, and the units in use
 pub record OthersKept (n : ℕ) (s after : Station) : Type 0 where
   pub others : (i : ℕ) → isOf n (getD (s .entries) i blank) ≡ false → getD (after .entries) i blank ≡ getD (s .entries) i blank
+  pub its : (i : ℕ) → isOf n (getD (s .entries) i blank) ≡ true → isFree (getD (after .entries) i blank) ≡ false → isOf n (getD (after .entries) i blank) ≡ true
   pub clock : after .clock ≡ s .clock
   pub last : after .last ≡ s .last
   pub capacity : after .capacity ≡ s .capacity
@@ -47,14 +50,21 @@ not-about e r concerns other =
 module _ (s : Station) (e : Record) (concerns : concernsNeighbour (e .kind) ≡ true) where
   about-keeps : (found : Found) → find (about e) s ≡ found → OthersKept (e .neighbour) s (aboutOne e found s .station)
   about-keeps Nothing _ =
-      record { others = λ _ _. refl; clock = refl; last = refl; capacity = refl; prep = refl; overall = refl; guard = refl }
+      record { others = λ _ _. refl; its = λ _ of _. of; clock = refl; last = refl; capacity = refl; prep = refl; overall = refl; guard = refl }
   about-keeps (At k) found =
       let here = found-at (about e) (s .entries) 0 k blank found in
       let place : here .0 ≡ k = omega (arith, here .1) in
       let mine : about e (getD (s .entries) k blank) ≡ true = rw place at (here .3) in
-      let r = decide e (getD (s .entries) k blank) (s .clock + s .overall) .entry in
+      let x = getD (s .entries) k blank in
+      let r = decide e x (s .clock + s .overall) .entry in
+      let put-here = getD-set-same (s .entries) k r blank (omega (arith, here .1, here .2)) in
       record {
         others = λ i other. getD-set-other (s .entries) k i r blank (λ same. true≢false (sym mine ∙ not-about e (getD (s .entries) k blank) concerns (rw same at other)));
+        its = λ i of used. by-cases (eqb i k)
+            (λ u.
+            let left : isFree r ≡ false = rw (eqb-true i k u, put-here) at used in
+            rw (eqb-true i k u, put-here, left) (rw (← decided-keeps e x (s .clock + s .overall) left .0) at (both-true (not (isFree x)) (eqb (x .neighbour) (e .neighbour)) (about-of e x concerns mine) .1)))
+            (λ u. rw (getD-set-other (s .entries) k i r blank (eqb-false i k u)) of);
         clock = refl;
         last = refl;
         capacity = refl;
@@ -66,7 +76,8 @@ module _ (s : Station) (e : Record) (concerns : concernsNeighbour (e .kind) ≡ 
   reset-keeps : OthersKept (e .neighbour) s (reset e s)
   reset-keeps =
       record {
-        others = λ i other. reset-at i ∙ rw (not-about e (getD (s .entries) i blank) concerns other);
+        others = λ i other. reset-at e s i ∙ rw (not-about e (getD (s .entries) i blank) concerns other);
+        its = λ i of. rw (reset-at e s i) (by-cases (about e (getD (s .entries) i blank)) (λ t. rw t (λ used. absurd (true≢false used))) (λ t. rw t (λ _. of)));
         clock = refl;
         last = refl;
         capacity = refl;
@@ -74,14 +85,6 @@ module _ (s : Station) (e : Record) (concerns : concernsNeighbour (e .kind) ≡ 
         overall = refl;
         guard = refl;
       }
-    where
-      left : Entry → Entry
-      left r = cond (about e r) blank r
-
-      reset-at : (i : ℕ) → getD (map left (s .entries)) i blank ≡ left (getD (s .entries) i blank)
-      reset-at i =
-          let same : left blank ≡ blank = by-cases (about e blank) (λ t. rw t) (λ t. rw t) in
-          subst (λ d. getD (map left (s .entries)) i d ≡ left (getD (s .entries) i blank)) same (List·getD-map left (s .entries) i blank)
 
 -- What holds of 7 and 14 holds of a reset's kind.
 pub reset-kind : (P : ℕ → Type 0) (k : ℕ) → P 7 → P 14 → (eqb k 7 || eqb k 14) ≡ true → P k
@@ -120,6 +123,25 @@ module _ (s : Station) (e : Record) (bearers : List ℕ) (room : ℕ) (formed : 
 pub record Agree (n : ℕ) (s t : Station) : Type 0 where
   pub here : (i : ℕ) → i < 64 → isOf n (getD (s .entries) i blank) ≡ true → getD (s .entries) i blank ≡ getD (t .entries) i blank
   pub there : (i : ℕ) → i < 64 → isOf n (getD (t .entries) i blank) ≡ true → getD (s .entries) i blank ≡ getD (t .entries) i blank
+
+-- What leaves all but one neighbour's records leaves the records of every other.
+pub others-agree : (m n : ℕ) (s t : Station) → (m ≡ n → ⊥) → OthersKept n s t → Agree m s t
+others-agree m n s t apart kept =
+    record {
+      here = λ i _ of. sym (kept .others i (not-both (getD (s .entries) i blank) of));
+      there = λ i _ of.
+          by-cases (isOf n (getD (s .entries) i blank))
+          (λ u. absurd (true≢false (sym (kept .its i u (used (getD (t .entries) i blank) of)) ∙ not-both (getD (t .entries) i blank) of)))
+          (λ u. sym (kept .others i u));
+    }
+  where
+    used : (r : Entry) → isOf m r ≡ true → isFree r ≡ false
+    used r of = not-true (isFree r) (both-true (not (isFree r)) (eqb (r .neighbour) m) of .0)
+
+    not-both : (r : Entry) → isOf m r ≡ true → isOf n r ≡ false
+    not-both r of =
+        let its = eqb-true (r .neighbour) m (both-true (not (isFree r)) (eqb (r .neighbour) m) of .1) in
+        rw (used r of, its) (ne-eqb m n apart)
 
 -- Where a test comes out the same at each place of two tables, it finds the same place.
 find-same : (test : Entry → Bool) (xs ys : List Entry) (i : ℕ) → length xs ≡ length ys → ((j : ℕ) → j < length xs → test (getD xs j blank) ≡ test (getD ys j blank)) → findFrom test i xs ≡ findFrom test i ys

@@ -3,7 +3,7 @@ use Prim.Native.Nat.{ℕ, _+_, _≤_, _<_}
 use mathlib.Core.Path.{_≡_, refl, _∙_, sym, ap, subst}
 use mathlib.Core.Bool.{Bool, true, false, cond, not, _&&_, _||_, true≢false, false≢true}
 use mathlib.Core.List.{List}
-use borrow.Author.Tests.{eqb-true, eqb-false, eq-eqb, ne-eqb, le-leb, leb-true, leb-false, not-true}
+use borrow.Author.Tests.{eqb-true, eqb-false, eq-eqb, le-leb, leb-true, leb-false, not-true}
 use native.Mathlib.Omega.{arith}
 use lib.Dec.{leb, eqb}
 use lib.ListN.{length, getD, set, length-set}
@@ -18,13 +18,14 @@ use Rattle.table.specs.declared.Found.the-variants.{At, Nothing}
 use Rattle.table.specs.declared.Station.{Station}
 use Rattle.table.specs.Events.{about, decide, key}
 use Rattle.table.specs.Fields.{wellFormed}
-use Rattle.table.specs.Numbers.{isFree, isOutgoing, isIncoming, isHeld, anyOf, blank, own, ownIs}
+use Rattle.table.specs.Numbers.{isFree, isOutgoing, anyOf, blank, own}
 use Rattle.table.specs.Sound.{Sound, ownTimes, heldTimes}
 use Rattle.table.specs.Step.{aboutOne, carried, stepOf}
-use Rattle.table.specs.Table.{find, put, tally}
+use Rattle.table.specs.Table.{find, put, reset, tally}
 use Rattle.table.proofs.Finding.{found-at, found-none}
-use Rattle.table.proofs.Keys.{isOf, Keyed, keyed-means}
-use Rattle.table.proofs.Neighbours.{decide-deadline}
+use Rattle.table.proofs.Keys.{isOf, keyed-means}
+use Rattle.table.proofs.Neighbours.{Agree, decide-deadline, step-reset}
+use Rattle.table.proofs.Resetting.{after, reset-at}
 use Rattle.table.proofs.Strangers.{below-at, about-of, answers-concern, step-about}
 use Rattle.table.proofs.Tally.{tally-at, tally-set, tally-none}
 
@@ -36,6 +37,11 @@ Has n s t = (i : ℕ) → i < 64 → isOf n (getD (s .entries) i blank) ≡ true
 pub record Same (n : ℕ) (s t : Station) : Type 0 where
   pub there : Has n s t
   pub back : Has n t s
+
+-- Records at the same places are the same.
+pub agree-same : (n : ℕ) (s t : Station) → Agree n s t → Same n s t
+agree-same n s t agree =
+    record { there = λ i h of. (i, h, sym (agree .here i h of)); back = λ i h of. (i, h, agree .there i h of) }
 
 -- ---- a record is found at one place only
 
@@ -206,3 +212,21 @@ pub message-depends-on-sender : (s t : Station) → Sound s → Sound t → (e :
 message-depends-on-sender s t sound other e bearers more room space formed low high same timer =
     rw (step-about s e bearers room formed low high, step-about t e more space formed low high)
     (answers e low high s t sound other same (λ two. omega (arith, timer two)) (find (about e) s) (find (about e) t) refl refl)
+
+-- A reset leaves the same records of a neighbour where they were the same.
+has-reset : (n : ℕ) (e : Record) (s t : Station) → Has n s t → Has n (reset e s) (reset e t)
+has-reset n e s t has p small mine =
+    let x = getD (s .entries) p blank in
+    let left : isOf n (after e x) ≡ true = rw (reset-at e s p) at mine in
+    by-cases (about e x) (λ u. absurd (false≢true (rw u at left)))
+    (λ u.
+    let found = has p small (rw u at left) in
+    (found .0, found .1, reset-at e t (found .0) ∙ ap (after e) (found .2) ∙ sym (reset-at e s p)))
+
+-- A reset, and the loss of a neighbour, are answered the same by every station, and where two have the same records of that neighbour,
+-- they have the same afterwards.
+pub reset-depends-on-none : (s t : Station) (e : Record) (bearers more : List ℕ) (room space : ℕ) → wellFormed e ≡ true → (eqb (e .kind) 7 || eqb (e .kind) 14) ≡ true
+    → Same (e .neighbour) s t → SameAnswer (e .neighbour) (stepOf s e bearers room) (stepOf t e more space)
+reset-depends-on-none s t e bearers more room space formed kinds same =
+    rw (step-reset s e bearers room formed kinds, step-reset t e more space formed kinds)
+    (record { outcome = refl; records = record { there = has-reset (e .neighbour) e s t (same .there); back = has-reset (e .neighbour) e t s (same .back) } })
