@@ -1,12 +1,12 @@
 -- The four ways in which a station changes leave it sound.
 use Prim.Native.Nat.{ℕ, _+_, _≤_, _<_}
-use mathlib.Core.Path.{_≡_, refl, _∙_, subst}
+use mathlib.Core.Path.{_≡_, refl, _∙_}
 use mathlib.Core.Bool.{true, cond}
 use mathlib.Core.List.{map}
 use borrow.Author.Tests.{eqb-true, eqb-false}
 use native.Mathlib.Omega.{arith}
 use lib.Dec.{eqb}
-use lib.ListN.{length, getD, set, length-set, length-map, List·getD-map}
+use lib.ListN.{length, getD, set, length-set, length-map}
 use lib.Seq.{getD-set-same, getD-set-other}
 use Rattle.laws.proofs.Tests.{by-cases}
 use Rattle.records.specs.declared.Record.{Record}
@@ -17,6 +17,7 @@ use Rattle.table.specs.Numbers.{isFree, blank}
 use Rattle.table.specs.Sound.{Fit, Sound, ownTimes, heldTimes}
 use Rattle.table.specs.Table.{at, put, add, reset, tally}
 use Rattle.table.proofs.Fits.{fit-blank}
+use Rattle.table.proofs.Resetting.{after, reset-at}
 use Rattle.table.proofs.Tally.{tally-at, tally-set, tally-map, tally-equal, tally-le, tally-add}
 
 module _ (s : Station) (sound : Sound s) where
@@ -99,8 +100,8 @@ module _ (s : Station) (sound : Sound s) where
   pub sound-reset : (e : Record) → Sound (reset e s)
   sound-reset e =
       record {
-        places = length-map (s .entries) left ∙ sound .places;
-        fit = λ i h. rw (left-at i) (left-fits (getD (s .entries) i blank) (sound .fit i h));
+        places = length-map (s .entries) (after e) ∙ sound .places;
+        fit = λ i h. rw (reset-at e s i) (after-fits (getD (s .entries) i blank) (sound .fit i h));
         distinct = λ k. omega (arith, sound .distinct k, fewer (ownTimes k) refl);
         unique = λ n o. omega (arith, sound .unique n o, fewer (heldTimes n o) refl);
         sum = omega (arith, sound .sum, parts);
@@ -112,24 +113,16 @@ module _ (s : Station) (sound : Sound s) where
         guard = sound .guard;
       }
     where
-      left : Entry → Entry
-      left r = cond (about e r) blank r
+      after-fits : (r : Entry) → Fit r → Fit (after e r)
+      after-fits r fit = by-cases (about e r) (λ t. rw t fit-blank) (λ t. rw t fit)
 
-      left-fits : (r : Entry) → Fit r → Fit (left r)
-      left-fits r fit = by-cases (about e r) (λ t. rw t fit-blank) (λ t. rw t fit)
-
-      left-at : (i : ℕ) → getD (map left (s .entries)) i blank ≡ left (getD (s .entries) i blank)
-      left-at i =
-          let same : left blank ≡ blank = by-cases (about e blank) (λ t. rw t) (λ t. rw t) in
-          subst (λ d. getD (map left (s .entries)) i d ≡ left (getD (s .entries) i blank)) same (List·getD-map left (s .entries) i blank)
-
-      fewer : (f : Entry → ℕ) → f blank ≡ 0 → tally f (map left (s .entries)) ≤ tally f (s .entries)
+      fewer : (f : Entry → ℕ) → f blank ≡ 0 → tally f (map (after e) (s .entries)) ≤ tally f (s .entries)
       fewer f none =
-          rw (tally-map f left (s .entries))
-          (tally-le (λ r. f (left r)) f (s .entries) (λ r. by-cases (about e r) (λ t. rw t (omega arith)) (λ t. rw t (omega arith))))
+          rw (tally-map f (after e) (s .entries))
+          (tally-le (λ r. f (after e r)) f (s .entries) (λ r. by-cases (about e r) (λ t. rw t (omega arith)) (λ t. rw t (omega arith))))
 
-      parts : tally (λ r. r .units) (s .entries) ≡ tally (λ r. cond (about e r) (r .units) 0) (s .entries) + tally (λ r. r .units) (map left (s .entries))
+      parts : tally (λ r. r .units) (s .entries) ≡ tally (λ r. cond (about e r) (r .units) 0) (s .entries) + tally (λ r. r .units) (map (after e) (s .entries))
       parts =
           let ended : Entry → ℕ = λ r. cond (about e r) (r .units) 0 in
-          let each = tally-equal (λ r. r .units) (λ r. ended r + left r .units) (s .entries) (λ r. by-cases (about e r) (λ t. rw t (omega arith)) (λ t. rw t (omega arith))) in
-          omega (arith, tally-add ended (λ r. left r .units) (s .entries), tally-map (λ r. r .units) left (s .entries))
+          let each = tally-equal (λ r. r .units) (λ r. ended r + after e r .units) (s .entries) (λ r. by-cases (about e r) (λ t. rw t (omega arith)) (λ t. rw t (omega arith))) in
+          omega (arith, tally-add ended (λ r. after e r .units) (s .entries), tally-map (λ r. r .units) (after e) (s .entries))

@@ -32,7 +32,7 @@ abbrev sole : ℕ → ℕ → ℕ → ℕ → ℕ → ℕ → Bool
 sole action k s kind state x = not (eqb x action) || eqb kind k && eqb state s
 
 -- By that test of the whole table, an action is found at its kind and state only.
-stands : (action k s kind state : ℕ) → eqb 0 action ≡ false → every (λ i row. every (sole action k s i) row) actions ≡ true → eqb (actionOf kind state) action ≡ true → (kind ≡ k) × (state ≡ s)
+pub stands : (action k s kind state : ℕ) → eqb 0 action ≡ false → every (λ i row. every (sole action k s i) row) actions ≡ true → eqb (actionOf kind state) action ≡ true → (kind ≡ k) × (state ≡ s)
 stands action k s kind state some test t =
     let row = every-at (λ i row. every (sole action k s i) row) actions [] kind test (λ j. refl) in
     let here = every-at (sole action k s kind) (getD actions kind []) 0 state row (λ j. rw some) in

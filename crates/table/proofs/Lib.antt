@@ -5,8 +5,13 @@ pub mod Finding
 pub mod Fits
 pub mod Forms
 pub mod Issuing
+pub mod Keys
+pub mod Neighbours
+pub mod Orderless
 pub mod Placing
+pub mod Replies
 pub mod Requests
 pub mod Resetting
 pub mod Soundness
+pub mod Strangers
 pub mod Tally

@@ -1,11 +1,11 @@
 -- A table of which the first records have been reset.
 use Prim.Native.Nat.{ℕ, suc, _+_, _-_, _≤_, _<_}
-use mathlib.Core.Path.{_≡_, refl, _∙_, sym, ap}
+use mathlib.Core.Path.{_≡_, refl, _∙_, sym, ap, subst}
 use mathlib.Core.Bool.{cond}
 use mathlib.Core.List.{List, [], _∷_, _++_, map, map-append, append-nil}
 use native.Mathlib.Numerals.{add-one}
 use native.Mathlib.Omega.{arith}
-use lib.ListN.{length, getD, set, take, drop, length-append, length-drop, length-map, length-take, take-append-drop, drop-of-length-le}
+use lib.ListN.{length, getD, set, take, drop, length-append, length-drop, length-map, length-take, take-append-drop, drop-of-length-le, List·getD-map}
 use lib.Seq.{drop-cons, take-suc, set-at, getD-at, length-take-le, take-all, append-snoc}
 use Rattle.laws.proofs.Tests.{by-cases}
 use Rattle.records.specs.declared.Record.{Record}
@@ -23,6 +23,12 @@ after e r = cond (about e r) blank r
 
 abbrev pub back : Record → Entry → ℕ
 back e r = cond (about e r) (r .units) 0
+
+-- A reset's table holds at each place what the reset makes of the record there.
+pub reset-at : (e : Record) (s : Station) (i : ℕ) → getD (reset e s .entries) i blank ≡ after e (getD (s .entries) i blank)
+reset-at e s i =
+    let same : after e blank ≡ blank = by-cases (about e blank) (λ t. rw t) (λ t. rw t) in
+    subst (λ d. getD (map (after e) (s .entries)) i d ≡ after e (getD (s .entries) i blank)) same (List·getD-map (after e) (s .entries) i blank)
 
 -- the station with the records before a place reset
 abbrev pub partly : Record → ℕ → Station → Station
