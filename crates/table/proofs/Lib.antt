@@ -8,5 +8,6 @@ pub mod Issuing
 pub mod Placing
 pub mod Requests
 pub mod Resetting
+pub mod Rows
 pub mod Soundness
 pub mod Tally
