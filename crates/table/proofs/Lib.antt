@@ -11,3 +11,4 @@ pub mod Resetting
 pub mod Rows
 pub mod Soundness
 pub mod Tally
+pub mod Ticks

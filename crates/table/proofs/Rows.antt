@@ -4,7 +4,7 @@ use mathlib.Core.Path.{_≡_, refl, sym, ap, _∙_}
 use native.Mathlib.Omega.{arith}
 use mathlib.Core.Bool.{Bool, true, false, cond, not, _&&_, _||_, false≢true}
 use mathlib.Core.List.{List, [], _∷_, map}
-use borrow.Author.Tests.{eqb-true, eqb-false}
+use borrow.Author.Tests.{eqb-true, eqb-false, leb-true}
 use lib.Dec.{leb, ltb, eqb}
 use lib.ListN.{getD, List·getD-map}
 use Rattle.laws.proofs.Tests.{by-cases, both-true}
@@ -84,12 +84,12 @@ dueRows =
     ∷ row 15 3 (ends 6)
     ∷ []
 
--- rows for what stands beyond the last: of no kind, and of a tick and no record that is due
+-- what is read beyond the last: a row of no kind, and the last row again
 abbrev pub noRow : Row
 noRow = row 0 0 untaken
 
 abbrev pub dueRow : Row
-dueRow = row 15 0 untaken
+dueRow = row 15 3 (ends 6)
 
 -- ---- what is decided
 
@@ -274,10 +274,10 @@ below-at (suc n) test i t h =
 abbrev pub aboutRecord : ℕ → Bool
 aboutRecord k = isKind k && not (eqb k 1 || eqb k 7 || eqb k 8 || eqb k 9 || eqb k 14 || eqb k 15)
 
-abbrev looks : ℕ → ℕ → Bool
+abbrev pub looks : ℕ → ℕ → Bool
 looks k st = leb (key k 0) st && leb st (key k 1)
 
-about-looks : (e : Record) (r : Entry) → about e r ≡ true → looks (e .kind) (r .state) ≡ true
+pub about-looks : (e : Record) (r : Entry) → about e r ≡ true → looks (e .kind) (r .state) ≡ true
 about-looks e r t =
     let k = key (e .kind) in
     let n : Bool = eqb (k 2) 0 || eqb (r .neighbour) (e .neighbour) in
@@ -292,9 +292,19 @@ row-of e r kind small few t =
     has-at (e .kind) (r .state) rows noRow (rw (kind, about-looks e r t) at cell)
 
 -- Whatever record a tick is about, there is a row for it.
-pub due-row-of : (e : Record) (r : Entry) → e .kind ≡ 15 → r .state < 5 → about e r ≡ true → (n : ℕ) × (r .state ≡ getD dueRows n dueRow .state)
-due-row-of e r kind few t =
+pub due-row-of : (e : Record) (r : Entry) → e .kind ≡ 15 → about e r ≡ true → (n : ℕ) × (r .state ≡ getD dueRows n dueRow .state)
+due-row-of e r kind t =
     let seen : looks 15 (r .state) ≡ true = rw kind at (about-looks e r t) in
-    let cell = below-at 5 (λ st. not (looks 15 st) || has 15 st dueRows) (r .state) refl few in
+    let few = leb-true (r .state) 3 (both-true (leb 1 (r .state)) (leb (r .state) 3) seen .1) in
+    let cell = below-at 5 (λ st. not (looks 15 st) || has 15 st dueRows) (r .state) refl (omega arith) in
     let there = has-at 15 (r .state) dueRows dueRow (rw seen at cell) in
     (there .0, there .2)
+
+-- So a tick about a record has reply 0 and ends it.
+pub due-ends : (e : Record) (r : Entry) (deadline : ℕ) → e .kind ≡ 15 → about e r ≡ true → (decide e r deadline .reply ≡ 0) × (decide e r deadline .entry ≡ blank)
+due-ends e r deadline kind t =
+    let there = due-row-of e r kind t in
+    rw (due-rows-hold e r deadline (there .0) kind (there .1)) (
+      same-at (λ x. x .does e r deadline .reply) (λ x. 0) dueRows dueRow (there .0) refl refl,
+      same-at (λ x. x .does e r deadline .entry) (λ x. blank) dueRows dueRow (there .0) refl refl,
+    )
