@@ -12,6 +12,8 @@ pub mod Placing
 pub mod Replies
 pub mod Requests
 pub mod Resetting
+pub mod Rows
 pub mod Soundness
 pub mod Strangers
 pub mod Tally
+pub mod Ticks

@@ -1,0 +1,310 @@
+-- Each kind's row of "Which state takes which event": from which state, to which state or ending, which message with which fields.
+use Prim.Native.Nat.{ℕ, zero, suc, _+_, _<_}
+use mathlib.Core.Path.{_≡_, refl, sym, ap, _∙_}
+use native.Mathlib.Omega.{arith}
+use mathlib.Core.Bool.{Bool, true, false, cond, not, _&&_, _||_, false≢true}
+use mathlib.Core.List.{List, [], _∷_, map}
+use borrow.Author.Tests.{eqb-true, eqb-false, leb-true}
+use lib.Dec.{leb, ltb, eqb}
+use lib.ListN.{getD, List·getD-map}
+use Rattle.laws.proofs.Tests.{by-cases, both-true}
+use Rattle.records.specs.declared.Record.{Record}
+use Rattle.table.specs.declared.Answer.{Answer}
+use Rattle.table.specs.declared.Decision.{Decision}
+use Rattle.table.specs.declared.Entry.{Entry}
+use Rattle.table.specs.declared.Found.{Found}
+use Rattle.table.specs.declared.Found.the-variants.{At, Nothing}
+use Rattle.table.specs.declared.Station.{Station}
+use Rattle.table.specs.Events.{key, newFits, about, message, silence, decision, refusal, listsFit, setFits, prepared, stored, serving, decide}
+use Rattle.table.specs.Fields.{isKind, wellFormed}
+use Rattle.table.specs.Numbers.{isFree, blank}
+use Rattle.table.specs.Step.{answer, refused, carried, aboutOne, resetOf, startAt, tickAt, tickOf, requestOf, repeatOf, admittedAt, stepOf, issue, started, failure, heldFor, admission, taken, complete}
+use Rattle.table.specs.Table.{find, soonest, at, add, reset}
+
+-- ---- the rows
+
+-- the kind of an event, the state of the record that it is about, and what it then does, by the deadline of an acknowledge
+pub record Row : Type 0 where
+  pub kind : ℕ
+  pub state : ℕ
+  pub does : Record → Entry → ℕ → Decision
+
+abbrev row : ℕ → ℕ → (Record → Entry → ℕ → Decision) → Row
+row kind state does = record { kind = kind; state = state; does = does }
+
+-- what ends the record silently, with a message about it, or is not taken
+abbrev ends : ℕ → Record → Entry → ℕ → Decision
+ends ending e r deadline = decision 0 ending silence blank
+
+abbrev says : ℕ → ℕ → ℕ → Entry → Record
+says kind new reason r = message kind (r .neighbour) (r .old .0) new 0 0 reason
+
+abbrev untaken : Record → Entry → ℕ → Decision
+untaken e r deadline = refusal 6 r
+
+-- the rows of the events about one record, the states being preparing 1, prepared 2, held 3 and serving 4
+abbrev pub rows : List Row
+rows =
+    -- 2: preparing and lists fit: prepared, deadline clock plus overall; they do not fit: 7; prepared: 6
+    row 2 1 (λ e r deadline. cond (listsFit r e) (decision 0 0 silence (prepared r e deadline)) (refusal 7 r))
+    ∷ row 2 2 untaken
+    -- 3: preparing ends, 1; prepared: 6
+    ∷ row 3 1 (ends 1)
+    ∷ row 3 2 untaken
+    -- 4: held and the set fits: stored; else 7
+    ∷ row 4 3 (λ e r deadline. cond (setFits r e) (decision 0 0 silence (stored r e)) (refusal 7 r))
+    -- 5: prepared ends, 3; preparing: 6
+    ∷ row 5 2 (ends 3)
+    ∷ row 5 1 untaken
+    -- 6: held ends, 7
+    ∷ row 6 3 (ends 7)
+    -- 10: preparing or prepared sends 6, New if prepared, else absent, reason 1, and ends, 2
+    ∷ row 10 1 (λ e r deadline. decision 0 2 (says 6 65535 1 r) blank)
+    ∷ row 10 2 (λ e r deadline. decision 0 2 (says 6 (r .new .0) 1 r) blank)
+    -- 11: held becomes serving, sends 5 with both IDs, ending 8; serving: 6
+    ∷ row 11 3 (λ e r deadline. decision 0 8 (says 5 (r .new .0) 0 r) (serving r))
+    ∷ row 11 4 untaken
+    -- 12: prepared ends, 5, silently; preparing: 6
+    ∷ row 12 2 (ends 5)
+    ∷ row 12 1 untaken
+    -- 13: serving ends, 9; held: 6
+    ∷ row 13 4 (ends 9)
+    ∷ row 13 3 untaken
+    -- 17: prepared and the set fits: sends 4 with the set; else 7; preparing: 6
+    ∷ row 17 2 (λ e r deadline. cond (setFits r e) (decision 0 0 (message 4 (r .neighbour) (r .old .0) (r .new .0) (e .first) 0 0) r) (refusal 7 r))
+    ∷ row 17 1 untaken
+    ∷ []
+
+-- 15, of a record that is due: preparing sends 6 with New absent, reason 2, and ends, 2; prepared sends 20 with both IDs and ends, 4;
+-- held ends, 6
+abbrev pub dueRows : List Row
+dueRows =
+    row 15 1 (λ e r deadline. decision 0 2 (says 6 65535 2 r) blank)
+    ∷ row 15 2 (λ e r deadline. decision 0 4 (says 20 (r .new .0) 0 r) blank)
+    ∷ row 15 3 (ends 6)
+    ∷ []
+
+-- what is read beyond the last: a row of no kind, and the last row again
+abbrev pub noRow : Row
+noRow = row 0 0 untaken
+
+abbrev pub dueRow : Row
+dueRow = row 15 3 (ends 6)
+
+-- ---- what is decided
+
+abbrev ofKind : ℕ → Record → Record
+ofKind kind e =
+    record {
+      kind = kind;
+      neighbour = e .neighbour;
+      old = e .old;
+      new = e .new;
+      first = e .first;
+      second = e .second;
+      reason = e .reason;
+      byte11 = e .byte11;
+      number = e .number;
+      time = e .time;
+      erab = e .erab;
+      qci = e .qci;
+      priority = e .priority;
+      flags = e .flags;
+      bytes28 = e .bytes28;
+    }
+
+abbrev inState : ℕ → Entry → Entry
+inState state r =
+    record {
+      state = state;
+      neighbour = r .neighbour;
+      old = r .old;
+      new = r .new;
+      requested = r .requested;
+      admitted = r .admitted;
+      status = r .status;
+      units = r .units;
+      deadline = r .deadline;
+    }
+
+-- What agrees along a list and beyond it agrees at each place.
+same-at : {A : Type 0} (f g : Row → A) (xs : List Row) (d : Row) (n : ℕ) → map f xs ≡ map g xs → f d ≡ g d → f (getD xs n d) ≡ g (getD xs n d)
+same-at f g xs d n same beyond = rw (← List·getD-map f xs n d, ← List·getD-map g xs n d, same, beyond)
+
+module _ (e : Record) (r : Entry) (deadline : ℕ) where
+  abbrev decided : Row → Decision
+  decided x = decide (ofKind (x .kind) e) (inState (x .state) r) deadline
+
+  abbrev listed : Row → Decision
+  listed x = x .does (ofKind (x .kind) e) (inState (x .state) r) deadline
+
+  -- At a row's kind and state it is decided what the row says.
+  row-means : (x : Row) → decided x ≡ listed x → e .kind ≡ x .kind → r .state ≡ x .state → decide e r deadline ≡ x .does e r deadline
+  row-means x same kind state = rw (← kind, ← state) at same
+
+  -- All rows hold, by computation.
+  pub rows-hold : (n : ℕ) → e .kind ≡ getD rows n noRow .kind → r .state ≡ getD rows n noRow .state → decide e r deadline ≡ getD rows n noRow .does e r deadline
+  rows-hold n = row-means (getD rows n noRow) (same-at decided listed rows noRow n refl refl)
+
+  pub due-rows-hold : (n : ℕ) → e .kind ≡ 15 → r .state ≡ getD dueRows n dueRow .state → decide e r deadline ≡ getD dueRows n dueRow .does e r deadline
+  due-rows-hold n kind =
+      row-means (getD dueRows n dueRow) (same-at decided listed dueRows dueRow n refl refl)
+      (kind ∙ sym (same-at (λ x. x .kind) (λ x. 15) dueRows dueRow n refl refl))
+
+-- ---- the whole answer
+
+-- which part of the step an event takes, by its kind
+abbrev byKind : ℕ → Record → List ℕ → ℕ → Station → Answer
+byKind k e bearers room s =
+    cond (eqb k 1) (requestOf e bearers room s)
+    (cond (eqb k 9) (startAt e (find isFree s) s)
+    (cond (eqb k 15) (tickOf e s)
+    (cond (eqb k 7 || eqb k 14) (resetOf e s)
+    (cond (eqb k 8) (answer 0 0 0 silence s)
+    (aboutOne e (find (about e) s) s)))))
+
+module _ (s : Station) (e : Record) (bearers : List ℕ) (room : ℕ) (formed : wellFormed e ≡ true) where
+  pub by-kind : (k : ℕ) → e .kind ≡ k → stepOf s e bearers room ≡ byKind k e bearers room s
+  by-kind k kind = rw formed (ap (λ (n : ℕ). byKind n e bearers room s) kind)
+
+  -- An event of a row's kind about a record in the row's state does what the row says, with the deadline clock plus overall.
+  pub row-step : (i n : ℕ) → e .kind ≡ getD rows n noRow .kind → find (about e) s ≡ At i → getD (s .entries) i blank .state ≡ getD rows n noRow .state
+      → stepOf s e bearers room ≡ carried i (getD rows n noRow .does e (getD (s .entries) i blank) (s .clock + s .overall)) s
+  row-step i n kind found state =
+      by-kind (getD rows n noRow .kind) kind
+      ∙ same-at (λ x. byKind (x .kind) e bearers room s) (λ x. aboutOne e (find (about e) s) s) rows noRow n refl refl
+      ∙ ap (λ (f : Found). aboutOne e f s) found
+      ∙ ap (λ (d : Decision). carried i d s) (rows-hold e (getD (s .entries) i blank) (s .clock + s .overall) n kind state)
+
+  -- One that is about no record is refused with 2.
+  pub lost-step : (n : ℕ) → e .kind ≡ getD rows n noRow .kind → find (about e) s ≡ Nothing → stepOf s e bearers room ≡ refused 2 s
+  lost-step n kind found =
+      by-kind (getD rows n noRow .kind) kind
+      ∙ same-at (λ x. byKind (x .kind) e bearers room s) (λ x. aboutOne e (find (about e) s) s) rows noRow n refl refl
+      ∙ ap (λ (f : Found). aboutOne e f s) found
+
+  -- A tick at a time not before the clock does to the soonest record what its row says, and the clock becomes the time.
+  pub due-step : (i n : ℕ) → e .kind ≡ 15 → ltb (e .time) (s .clock) ≡ false → soonest e s ≡ At i → getD (s .entries) i blank .state ≡ getD dueRows n dueRow .state
+      → stepOf s e bearers room ≡ carried i (getD dueRows n dueRow .does e (getD (s .entries) i blank) 0) (at (e .time) s)
+  due-step i n kind late found state =
+      by-kind 15 kind
+      ∙ rw late
+      (ap (λ (f : Found). tickAt e f (at (e .time) s)) found
+      ∙ ap (λ (d : Decision). carried i d (at (e .time) s)) (due-rows-hold e (getD (s .entries) i blank) 0 n kind state))
+
+  -- 9: where a place is free, a preparing record with the next own ID, which sends 1 with Old and the set; where none is, 4.
+  pub start-step : (i : ℕ) → e .kind ≡ 9 → find isFree s ≡ At i → stepOf s e bearers room ≡ answer 0 0 0 (message 1 (e .neighbour) (issue s) 0 (e .first) 0 0) (add i (issue s) (started e s) s)
+  start-step i kind found = by-kind 9 kind ∙ ap (λ (f : Found). startAt e f s) found
+
+  pub full-step : e .kind ≡ 9 → find isFree s ≡ Nothing → stepOf s e bearers room ≡ refused 4 s
+  full-step kind found = by-kind 9 kind ∙ ap (λ (f : Found). startAt e f s) found
+
+  -- 7 and 14: all outgoing and held records of the neighbour end; 7 sends 8, 14 sends 7; ending 10 even if there was none.
+  pub reset-step : e .kind ≡ 7 → stepOf s e bearers room ≡ answer 0 10 0 (message 8 (e .neighbour) 0 0 0 0 0) (reset e s)
+  reset-step kind = by-kind 7 kind ∙ ap (λ (k : ℕ). answer 0 10 0 (message (cond (eqb k 7) 8 7) (e .neighbour) 0 0 0 0 0) (reset e s)) kind
+
+  pub own-reset-step : e .kind ≡ 14 → stepOf s e bearers room ≡ answer 0 10 0 (message 7 (e .neighbour) 0 0 0 0 0) (reset e s)
+  own-reset-step kind = by-kind 14 kind ∙ ap (λ (k : ℕ). answer 0 10 0 (message (cond (eqb k 7) 8 7) (e .neighbour) 0 0 0 0 0) (reset e s)) kind
+
+  -- 8: taken, and nothing is done.
+  pub response-step : e .kind ≡ 8 → stepOf s e bearers room ≡ answer 0 0 0 silence s
+  response-step kind = by-kind 8 kind
+
+  -- 1: with its bearers whole and well formed and room for their verdicts, not repeated, a place free and a bearer admitted: a held
+  -- record with the next own ID, deadline clock plus guard, which sends 2 with both IDs and both sets.
+  module _ (kind : e .kind ≡ 1) where
+    pub incomplete-step : complete e bearers room ≡ false → stepOf s e bearers room ≡ refused 1 s
+    incomplete-step t = by-kind 1 kind ∙ rw t
+
+    module _ (whole : complete e bearers room ≡ true) where
+      -- Of a request that a held record has answered: 3.
+      pub repeat-step : (i : ℕ) → find (about e) s ≡ At i → stepOf s e bearers room ≡ refused 3 s
+      repeat-step i found = by-kind 1 kind ∙ rw whole (ap (λ (f : Found). repeatOf e (taken e bearers) f s) found)
+
+      new-step : find (about e) s ≡ Nothing → (free : Found) → find isFree s ≡ free → stepOf s e bearers room ≡ admittedAt e (taken e bearers) free s
+      new-step new free found =
+          by-kind 1 kind
+          ∙ rw whole (ap (λ (f : Found). repeatOf e (taken e bearers) f s) new ∙ ap (λ (f : Found). admittedAt e (taken e bearers) f s) found)
+
+      -- With no place free: 4, and sends 3 with it.
+      pub crowded-step : find (about e) s ≡ Nothing → find isFree s ≡ Nothing → stepOf s e bearers room ≡ failure 4 e s
+      crowded-step new found = new-step new Nothing found
+
+      -- With no bearer admitted: 5, and sends 3 with it.
+      pub empty-step : (i : ℕ) → find (about e) s ≡ Nothing → find isFree s ≡ At i → eqb (admission (taken e bearers) s .admitted) 0 ≡ true → stepOf s e bearers room ≡ failure 5 e s
+      empty-step i new found none = new-step new (At i) found ∙ rw none
+
+      pub grant-step : (i : ℕ) → find (about e) s ≡ Nothing → find isFree s ≡ At i → eqb (admission (taken e bearers) s .admitted) 0 ≡ false
+          → stepOf s e bearers room
+          ≡ (let a = admission (taken e bearers) s in answer 0 0 (a .count) (message 2 (e .neighbour) (e .old .0) (issue s) (a .admitted) (a .refused) 0) (add i (issue s) (heldFor e a s) s))
+      grant-step i new found some = new-step new (At i) found ∙ rw some
+
+-- ---- no row is missing
+
+-- whether a list has a row of a kind and a state
+abbrev has : ℕ → ℕ → List Row → Bool
+has k st [] = false
+has k st (x ∷ xs) = eqb (x .kind) k && eqb (x .state) st || has k st xs
+
+-- Then it stands at some place.
+has-at : (k st : ℕ) (xs : List Row) (d : Row) → has k st xs ≡ true → (n : ℕ) × (k ≡ getD xs n d .kind) × (st ≡ getD xs n d .state)
+has-at k st [] d t = absurd (false≢true t)
+has-at k st (x ∷ xs) d t =
+    by-cases (eqb (x .kind) k && eqb (x .state) st)
+    (λ u.
+    let both = both-true (eqb (x .kind) k) (eqb (x .state) st) u in
+    (0, sym (eqb-true (x .kind) k (both .0)), sym (eqb-true (x .state) st (both .1))))
+    (λ u.
+    let later = has-at k st xs d (rw u at t) in
+    (suc (later .0), later .1, later .2))
+
+-- whether a test holds of each number below a bound, and then of each
+abbrev below : ℕ → (ℕ → Bool) → Bool
+below zero test = true
+below (suc n) test = test n && below n test
+
+below-at : (n : ℕ) (test : ℕ → Bool) (i : ℕ) → below n test ≡ true → i < n → test i ≡ true
+below-at zero test i t h = absurd (omega arith)
+below-at (suc n) test i t h =
+    by-cases (eqb i n)
+    (λ u. rw (eqb-true i n u) (both-true (test n) (below n test) t .0))
+    (λ u. below-at n test i (both-true (test n) (below n test) t .1) (omega (arith, eqb-false i n u)))
+
+-- the kinds of events about one record, and whether an event of a kind looks at records in a state
+abbrev pub aboutRecord : ℕ → Bool
+aboutRecord k = isKind k && not (eqb k 1 || eqb k 7 || eqb k 8 || eqb k 9 || eqb k 14 || eqb k 15)
+
+abbrev pub looks : ℕ → ℕ → Bool
+looks k st = leb (key k 0) st && leb st (key k 1)
+
+pub about-looks : (e : Record) (r : Entry) → about e r ≡ true → looks (e .kind) (r .state) ≡ true
+about-looks e r t =
+    let k = key (e .kind) in
+    let n : Bool = eqb (k 2) 0 || eqb (r .neighbour) (e .neighbour) in
+    let o : Bool = eqb (k 3) 0 || eqb (r .old .0) (e .old .0) in
+    both-true (looks (e .kind) (r .state)) n (both-true (looks (e .kind) (r .state) && n) o (both-true (looks (e .kind) (r .state) && n && o) (newFits (k 4) e r) t .0) .0) .0
+
+-- Whatever record an event about one record is about, there is a row for it.
+pub row-of : (e : Record) (r : Entry) → aboutRecord (e .kind) ≡ true → e .kind < 18 → r .state < 5 → about e r ≡ true → (n : ℕ) × (e .kind ≡ getD rows n noRow .kind) × (r .state ≡ getD rows n noRow .state)
+row-of e r kind small few t =
+    let row = below-at 18 (λ k. below 5 (λ st. not (aboutRecord k && looks k st) || has k st rows)) (e .kind) refl small in
+    let cell = below-at 5 (λ st. not (aboutRecord (e .kind) && looks (e .kind) st) || has (e .kind) st rows) (r .state) row few in
+    has-at (e .kind) (r .state) rows noRow (rw (kind, about-looks e r t) at cell)
+
+-- Whatever record a tick is about, there is a row for it.
+pub due-row-of : (e : Record) (r : Entry) → e .kind ≡ 15 → about e r ≡ true → (n : ℕ) × (r .state ≡ getD dueRows n dueRow .state)
+due-row-of e r kind t =
+    let seen : looks 15 (r .state) ≡ true = rw kind at (about-looks e r t) in
+    let few = leb-true (r .state) 3 (both-true (leb 1 (r .state)) (leb (r .state) 3) seen .1) in
+    let cell = below-at 5 (λ st. not (looks 15 st) || has 15 st dueRows) (r .state) refl (omega arith) in
+    let there = has-at 15 (r .state) dueRows dueRow (rw seen at cell) in
+    (there .0, there .2)
+
+-- So a tick about a record has reply 0 and ends it.
+pub due-ends : (e : Record) (r : Entry) (deadline : ℕ) → e .kind ≡ 15 → about e r ≡ true → (decide e r deadline .reply ≡ 0) × (decide e r deadline .entry ≡ blank)
+due-ends e r deadline kind t =
+    let there = due-row-of e r kind t in
+    rw (due-rows-hold e r deadline (there .0) kind (there .1)) (
+      same-at (λ x. x .does e r deadline .reply) (λ x. 0) dueRows dueRow (there .0) refl refl,
+      same-at (λ x. x .does e r deadline .entry) (λ x. blank) dueRows dueRow (there .0) refl refl,
+    )
