@@ -106,6 +106,7 @@ module _ (s : Station) (e : Record) (bearers : List ℕ) (room : ℕ) (formed : 
       at-one Nothing = (0, λ _ _. refl)
       at-one (At k) = (k, λ i other. getD-set-other (s .entries) k i (decide e (getD (s .entries) k blank) (s .clock + s .overall) .entry) blank other)
 
+  -- The kinds 7 and 14 are resets.
   pub step-reset : (eqb (e .kind) 7 || eqb (e .kind) 14) ≡ true → stepOf s e bearers room ≡ resetOf e s
   step-reset t =
       let other : (n : ℕ) → eqb 7 n ≡ false → eqb 14 n ≡ false → eqb (e .kind) n ≡ false = λ n x y. reset-kind (λ k. eqb k n ≡ false) (e .kind) x y t in
