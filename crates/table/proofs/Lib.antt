@@ -12,3 +12,4 @@ pub mod Rows
 pub mod Soundness
 pub mod Tally
 pub mod Ticks
+pub mod Units

@@ -128,7 +128,7 @@ inState state r =
     }
 
 -- What agrees along a list and beyond it agrees at each place.
-same-at : {A : Type 0} (f g : Row → A) (xs : List Row) (d : Row) (n : ℕ) → map f xs ≡ map g xs → f d ≡ g d → f (getD xs n d) ≡ g (getD xs n d)
+pub same-at : {A B : Type 0} (f g : A → B) (xs : List A) (d : A) (n : ℕ) → map f xs ≡ map g xs → f d ≡ g d → f (getD xs n d) ≡ g (getD xs n d)
 same-at f g xs d n same beyond = rw (← List·getD-map f xs n d, ← List·getD-map g xs n d, same, beyond)
 
 module _ (e : Record) (r : Entry) (deadline : ℕ) where
