@@ -5,6 +5,7 @@ pub mod Finding
 pub mod Fits
 pub mod Forms
 pub mod Issuing
+pub mod Once
 pub mod Placing
 pub mod Requests
 pub mod Resetting
