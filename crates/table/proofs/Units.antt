@@ -231,6 +231,7 @@ module _ (s : Station) (sound : Sound s) (e : Record) (bearers : List ℕ) where
 -- ---- the laws, of any answer that accounts for the units
 
 module _ (a : Answer) (e : Record) (bearers : List ℕ) (s : Station) (account : Accounts a e bearers s) where
+  -- Where the reply is not 0, nothing is given out or taken back.
   refused-account : (a .outcome .reply ≡ 0 → ⊥) → a .station .used ≡ s .used
   refused-account other =
       let t = ne-eqb (a .outcome .reply) 0 other in
@@ -238,24 +239,27 @@ module _ (a : Answer) (e : Record) (bearers : List ℕ) (s : Station) (account :
       let nothing : givenOut a e bearers s ≡ 0 = rw t in
       omega (arith, account .units)
 
+  -- Of a kind that ends no record, nothing is taken back.
   kept-account : endsNone (e .kind) ≡ true → a .station .used ≡ s .used + givenOut a e bearers s
   kept-account kind =
       let none : takenBack a e s ≡ 0 = rw kind (by-cases (eqb (a .outcome .ending) 0 || eqb (a .outcome .ending) 8) (λ t. rw t) (λ t. rw t)) in
       omega (arith, account .units)
 
+  -- Nor where the ending leaves the records.
   left-account : eqb (e .kind) 1 ≡ false → (eqb (a .outcome .ending) 0 || eqb (a .outcome .ending) 8) ≡ true → a .station .used ≡ s .used
   left-account other ending =
       let none : takenBack a e s ≡ 0 = rw ending in
       let nothing : givenOut a e bearers s ≡ 0 = rw other (by-cases (eqb (a .outcome .reply) 0) (λ t. rw t) (λ t. rw t)) in
       omega (arith, account .units)
 
+  -- Where it does not, exactly what the ended records held is.
   ended-account : eqb (e .kind) 1 ≡ false → (eqb (a .outcome .ending) 0 || eqb (a .outcome .ending) 8) ≡ false → a .station .used + freed e s ≡ s .used
   ended-account other ending =
       let all : takenBack a e s ≡ freed e s = rw ending in
       let nothing : givenOut a e bearers s ≡ 0 = rw other (by-cases (eqb (a .outcome .reply) 0) (λ t. rw t) (λ t. rw t)) in
       omega (arith, account .units)
 
--- the kinds that end a record, ticks and resets apart: failure, release, cancel, the order to cancel, and both reports of the end
+-- the kinds of events about one record that end it
 abbrev pub endingKinds : List ℕ
 endingKinds = 3 ∷ 5 ∷ 6 ∷ 10 ∷ 12 ∷ 13 ∷ []
 
