@@ -16,12 +16,12 @@ use Rattle.table.specs.Numbers.{blank}
 -- ---- where an action stands
 
 -- whether a test holds of each element of a list and its place
-abbrev every : {A : Type 0} → (ℕ → A → Bool) → List A → Bool
+abbrev pub every : {A : Type 0} → (ℕ → A → Bool) → List A → Bool
 every test [] = true
 every test (x ∷ xs) = test 0 x && every (λ i. test (suc i)) xs
 
 -- Then it holds of what is read at any place, if it holds of what is read beyond the end.
-every-at : {A : Type 0} (test : ℕ → A → Bool) (xs : List A) (d : A) (i : ℕ) → every test xs ≡ true → ((j : ℕ) → test j d ≡ true) → test i (getD xs i d) ≡ true
+pub every-at : {A : Type 0} (test : ℕ → A → Bool) (xs : List A) (d : A) (i : ℕ) → every test xs ≡ true → ((j : ℕ) → test j d ≡ true) → test i (getD xs i d) ≡ true
 every-at test [] d i t beyond = beyond i
 every-at test (x ∷ xs) d zero t beyond = both-true (test 0 x) (every (λ i. test (suc i)) xs) t .0
 every-at test (x ∷ xs) d (suc i) t beyond =

@@ -7,6 +7,7 @@ pub mod Forms
 pub mod Issuing
 pub mod Keys
 pub mod Neighbours
+pub mod Once
 pub mod Orderless
 pub mod Placing
 pub mod Replies
@@ -17,3 +18,4 @@ pub mod Soundness
 pub mod Strangers
 pub mod Tally
 pub mod Ticks
+pub mod Units

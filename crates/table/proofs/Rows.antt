@@ -1,10 +1,10 @@
 -- Each kind's row of "Which state takes which event": from which state, to which state or ending, which message with which fields.
 use Prim.Native.Nat.{ℕ, zero, suc, _+_, _<_}
 use mathlib.Core.Path.{_≡_, refl, sym, ap, _∙_}
-use native.Mathlib.Omega.{arith}
 use mathlib.Core.Bool.{Bool, true, false, cond, not, _&&_, _||_, false≢true}
 use mathlib.Core.List.{List, [], _∷_, map}
 use borrow.Author.Tests.{eqb-true, eqb-false, leb-true}
+use native.Mathlib.Omega.{arith}
 use lib.Dec.{leb, ltb, eqb}
 use lib.ListN.{getD, List·getD-map}
 use Rattle.laws.proofs.Tests.{by-cases, both-true}
@@ -18,8 +18,12 @@ use Rattle.table.specs.declared.Station.{Station}
 use Rattle.table.specs.Events.{key, newFits, about, message, silence, decision, refusal, listsFit, setFits, prepared, stored, serving, decide}
 use Rattle.table.specs.Fields.{isKind, wellFormed}
 use Rattle.table.specs.Numbers.{isFree, blank}
+use Rattle.table.specs.Sound.{Sound}
 use Rattle.table.specs.Step.{answer, refused, carried, aboutOne, resetOf, startAt, tickAt, tickOf, requestOf, repeatOf, admittedAt, stepOf, issue, started, failure, heldFor, admission, taken, complete}
 use Rattle.table.specs.Table.{find, soonest, at, add, reset}
+use Rattle.table.proofs.Finding.{found-at}
+use Rattle.table.proofs.Forms.{kind-small}
+use Rattle.table.proofs.Placing.{found-place}
 
 -- ---- the rows
 
@@ -128,7 +132,7 @@ inState state r =
     }
 
 -- What agrees along a list and beyond it agrees at each place.
-same-at : {A : Type 0} (f g : Row → A) (xs : List Row) (d : Row) (n : ℕ) → map f xs ≡ map g xs → f d ≡ g d → f (getD xs n d) ≡ g (getD xs n d)
+pub same-at : {A B : Type 0} (f g : A → B) (xs : List A) (d : A) (n : ℕ) → map f xs ≡ map g xs → f d ≡ g d → f (getD xs n d) ≡ g (getD xs n d)
 same-at f g xs d n same beyond = rw (← List·getD-map f xs n d, ← List·getD-map g xs n d, same, beyond)
 
 module _ (e : Record) (r : Entry) (deadline : ℕ) where
@@ -142,10 +146,11 @@ module _ (e : Record) (r : Entry) (deadline : ℕ) where
   row-means : (x : Row) → decided x ≡ listed x → e .kind ≡ x .kind → r .state ≡ x .state → decide e r deadline ≡ x .does e r deadline
   row-means x same kind state = rw (← kind, ← state) at same
 
-  -- All rows hold, by computation.
+  -- All rows about one record hold, by computation.
   pub rows-hold : (n : ℕ) → e .kind ≡ getD rows n noRow .kind → r .state ≡ getD rows n noRow .state → decide e r deadline ≡ getD rows n noRow .does e r deadline
   rows-hold n = row-means (getD rows n noRow) (same-at decided listed rows noRow n refl refl)
 
+  -- All rows of ticks hold, by computation.
   pub due-rows-hold : (n : ℕ) → e .kind ≡ 15 → r .state ≡ getD dueRows n dueRow .state → decide e r deadline ≡ getD dueRows n dueRow .does e r deadline
   due-rows-hold n kind =
       row-means (getD dueRows n dueRow) (same-at decided listed dueRows dueRow n refl refl)
@@ -164,6 +169,7 @@ byKind k e bearers room s =
     (aboutOne e (find (about e) s) s)))))
 
 module _ (s : Station) (e : Record) (bearers : List ℕ) (room : ℕ) (formed : wellFormed e ≡ true) where
+  -- A well-formed event takes the part of the step that its kind has.
   pub by-kind : (k : ℕ) → e .kind ≡ k → stepOf s e bearers room ≡ byKind k e bearers room s
   by-kind k kind = rw formed (ap (λ (n : ℕ). byKind n e bearers room s) kind)
 
@@ -192,17 +198,19 @@ module _ (s : Station) (e : Record) (bearers : List ℕ) (room : ℕ) (formed : 
       (ap (λ (f : Found). tickAt e f (at (e .time) s)) found
       ∙ ap (λ (d : Decision). carried i d (at (e .time) s)) (due-rows-hold e (getD (s .entries) i blank) 0 n kind state))
 
-  -- 9: where a place is free, a preparing record with the next own ID, which sends 1 with Old and the set; where none is, 4.
+  -- 9: where a place is free, a preparing record with the next own ID, which sends 1 with Old and the set.
   pub start-step : (i : ℕ) → e .kind ≡ 9 → find isFree s ≡ At i → stepOf s e bearers room ≡ answer 0 0 0 (message 1 (e .neighbour) (issue s) 0 (e .first) 0 0) (add i (issue s) (started e s) s)
   start-step i kind found = by-kind 9 kind ∙ ap (λ (f : Found). startAt e f s) found
 
+  -- 9, where no place is free: 4.
   pub full-step : e .kind ≡ 9 → find isFree s ≡ Nothing → stepOf s e bearers room ≡ refused 4 s
   full-step kind found = by-kind 9 kind ∙ ap (λ (f : Found). startAt e f s) found
 
-  -- 7 and 14: all outgoing and held records of the neighbour end; 7 sends 8, 14 sends 7; ending 10 even if there was none.
+  -- 7: all outgoing and held records of the neighbour end, which sends 8 and has ending 10 even if there was none.
   pub reset-step : e .kind ≡ 7 → stepOf s e bearers room ≡ answer 0 10 0 (message 8 (e .neighbour) 0 0 0 0 0) (reset e s)
   reset-step kind = by-kind 7 kind ∙ ap (λ (k : ℕ). answer 0 10 0 (message (cond (eqb k 7) 8 7) (e .neighbour) 0 0 0 0 0) (reset e s)) kind
 
+  -- 14: the same, and sends 7.
   pub own-reset-step : e .kind ≡ 14 → stepOf s e bearers room ≡ answer 0 10 0 (message 7 (e .neighbour) 0 0 0 0 0) (reset e s)
   own-reset-step kind = by-kind 14 kind ∙ ap (λ (k : ℕ). answer 0 10 0 (message (cond (eqb k 7) 8 7) (e .neighbour) 0 0 0 0 0) (reset e s)) kind
 
@@ -210,14 +218,13 @@ module _ (s : Station) (e : Record) (bearers : List ℕ) (room : ℕ) (formed : 
   pub response-step : e .kind ≡ 8 → stepOf s e bearers room ≡ answer 0 0 0 silence s
   response-step kind = by-kind 8 kind
 
-  -- 1: with its bearers whole and well formed and room for their verdicts, not repeated, a place free and a bearer admitted: a held
-  -- record with the next own ID, deadline clock plus guard, which sends 2 with both IDs and both sets.
   module _ (kind : e .kind ≡ 1) where
+    -- 1, with too few bearers, one that is malformed, or no room for their verdicts: 1.
     pub incomplete-step : complete e bearers room ≡ false → stepOf s e bearers room ≡ refused 1 s
     incomplete-step t = by-kind 1 kind ∙ rw t
 
     module _ (whole : complete e bearers room ≡ true) where
-      -- Of a request that a held record has answered: 3.
+      -- 1, where a record is held for its neighbour and its Old ID: 3.
       pub repeat-step : (i : ℕ) → find (about e) s ≡ At i → stepOf s e bearers room ≡ refused 3 s
       repeat-step i found = by-kind 1 kind ∙ rw whole (ap (λ (f : Found). repeatOf e (taken e bearers) f s) found)
 
@@ -226,14 +233,15 @@ module _ (s : Station) (e : Record) (bearers : List ℕ) (room : ℕ) (formed : 
           by-kind 1 kind
           ∙ rw whole (ap (λ (f : Found). repeatOf e (taken e bearers) f s) new ∙ ap (λ (f : Found). admittedAt e (taken e bearers) f s) found)
 
-      -- With no place free: 4, and sends 3 with it.
+      -- 1, where no place is free: 4, and sends 3 with it.
       pub crowded-step : find (about e) s ≡ Nothing → find isFree s ≡ Nothing → stepOf s e bearers room ≡ failure 4 e s
       crowded-step new found = new-step new Nothing found
 
-      -- With no bearer admitted: 5, and sends 3 with it.
+      -- 1, where no bearer is admitted: 5, and sends 3 with it.
       pub empty-step : (i : ℕ) → find (about e) s ≡ Nothing → find isFree s ≡ At i → eqb (admission (taken e bearers) s .admitted) 0 ≡ true → stepOf s e bearers room ≡ failure 5 e s
       empty-step i new found none = new-step new (At i) found ∙ rw none
 
+      -- 1, else: a held record with the next own ID, deadline clock plus guard, which sends 2 with both IDs and both sets.
       pub grant-step : (i : ℕ) → find (about e) s ≡ Nothing → find isFree s ≡ At i → eqb (admission (taken e bearers) s .admitted) 0 ≡ false
           → stepOf s e bearers room
           ≡ (let a = admission (taken e bearers) s in answer 0 0 (a .count) (message 2 (e .neighbour) (e .old .0) (issue s) (a .admitted) (a .refused) 0) (add i (issue s) (heldFor e a s) s))
@@ -277,6 +285,7 @@ aboutRecord k = isKind k && not (eqb k 1 || eqb k 7 || eqb k 8 || eqb k 9 || eqb
 abbrev pub looks : ℕ → ℕ → Bool
 looks k st = leb (key k 0) st && leb st (key k 1)
 
+-- The state of a record that an event is about is one at which it looks.
 pub about-looks : (e : Record) (r : Entry) → about e r ≡ true → looks (e .kind) (r .state) ≡ true
 about-looks e r t =
     let k = key (e .kind) in
@@ -290,6 +299,14 @@ row-of e r kind small few t =
     let row = below-at 18 (λ k. below 5 (λ st. not (aboutRecord k && looks k st) || has k st rows)) (e .kind) refl small in
     let cell = below-at 5 (λ st. not (aboutRecord (e .kind) && looks (e .kind) st) || has (e .kind) st rows) (r .state) row few in
     has-at (e .kind) (r .state) rows noRow (rw (kind, about-looks e r t) at cell)
+
+-- So an event about one record that finds one does what some row says.
+pub some-row : (s : Station) → Sound s → (e : Record) → wellFormed e ≡ true → aboutRecord (e .kind) ≡ true → (i : ℕ) → find (about e) s ≡ At i
+    → (n : ℕ) × (e .kind ≡ getD rows n noRow .kind) × (getD (s .entries) i blank .state ≡ getD rows n noRow .state)
+some-row s sound e formed kind i found =
+    let place = found-at (about e) (s .entries) 0 i blank found in
+    let here : place .0 ≡ i = omega (arith, place .1) in
+    row-of e (getD (s .entries) i blank) kind (kind-small e formed) (sound .fit i (found-place s sound (about e) i found) .state) (rw here at (place .3))
 
 -- Whatever record a tick is about, there is a row for it.
 pub due-row-of : (e : Record) (r : Entry) → e .kind ≡ 15 → about e r ≡ true → (n : ℕ) × (r .state ≡ getD dueRows n dueRow .state)

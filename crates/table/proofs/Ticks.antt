@@ -259,7 +259,7 @@ module _ (e : Record) (kind : e .kind ≡ 15) where
         ⊎-elim (λ one. one .1) (λ none. absurd (omega (arith, none .0)))
         (tick-fewer s bearers room late (soonest e s) refl .1)
 
-    -- A tick has reply 9 exactly where no record is due.
+    -- Where no record is due, a tick has reply 9.
     pub tick-ends : (s : Station) (bearers : List ℕ) (room : ℕ) → ltb (e .time) (s .clock) ≡ false → dues e s ≡ 0 → stepOf s e bearers room .outcome .reply ≡ 9
     tick-ends s bearers room late none =
         ⊎-elim (λ one. absurd (omega (arith, one .1))) (λ nine. nine .0)
@@ -274,7 +274,7 @@ module _ (e : Record) (kind : e .kind ≡ 15) where
         ticks-end n (stepOf s e [] 0 .station) (rw (step .0) (le-ltb (e .time) (e .time) (omega arith)))
         (⊎-elim (λ one. omega (arith, one .1)) (λ none. omega (arith, none .2)) (step .1))
 
-    -- Up to then each tick has reply 0.
+    -- Up to then each tick has reply 0, and there is one due record fewer for each.
     pub ticks-left : (n : ℕ) (s : Station) → ltb (e .time) (s .clock) ≡ false → n < dues e s → (dues e (ticks n e s) + n ≡ dues e s) × (stepOf (ticks n e s) e [] 0 .outcome .reply ≡ 0)
     unfolding ticks
     ticks-left zero s late some = (
