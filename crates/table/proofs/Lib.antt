@@ -4,6 +4,7 @@ pub mod Deciding
 pub mod Finding
 pub mod Fits
 pub mod Forms
+pub mod Guests
 pub mod Issuing
 pub mod Keys
 pub mod Neighbours
