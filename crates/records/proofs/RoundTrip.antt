@@ -59,10 +59,10 @@ read-written r bytes at h room =
     rw (le-leb (at + 32) (length bytes) room, fits, put-there at 32 bytes (bytesOf r) refl room, read-back r h)
 
 -- the bytes from a place on, and from a place within them
-bytes-drop : (n : ℕ) (bytes : List ℕ) → AreBytes bytes → AreBytes (drop n bytes)
+pub bytes-drop : (n : ℕ) (bytes : List ℕ) → AreBytes bytes → AreBytes (drop n bytes)
 bytes-drop n bytes h i = rw getD-drop (h (n + i))
 
-bytes-take : (n : ℕ) (bytes : List ℕ) → AreBytes bytes → AreBytes (take n bytes)
+pub bytes-take : (n : ℕ) (bytes : List ℕ) → AreBytes bytes → AreBytes (take n bytes)
 bytes-take zero bytes h i = omega arith
 bytes-take (suc n) [] h i = omega arith
 bytes-take (suc n) (b ∷ bytes) h zero = h 0

@@ -1,0 +1,53 @@
+-- How many digits a number has, and how long the texts of numbers are.
+use Prim.Native.Nat.{ℕ, zero, suc, _*_, _/_, _^_, _≤_, _<_}
+use mathlib.Core.Path.{_≡_, refl, _∙_}
+use mathlib.Core.Bool.{Bool, true, false, cond}
+use mathlib.Core.List.{List, [], _∷_}
+use borrow.Author.Tests.{le-leb, lt-leb}
+use native.Mathlib.Omega.{arith}
+use lib.Dec.{leb}
+use lib.ListN.{length, length-append}
+use Rattle.table.specs.declared.Outcome.{Outcome}
+use Rattle.lines.specs.Lines.{firstEight, lineOf}
+use Rattle.lines.specs.Text.{sizeIn, size, digits, cell, spaced}
+
+-- A number below ten has one digit.
+pub one-digit : (most n : ℕ) → n < 10 → sizeIn most n ≡ 1
+unfolding sizeIn
+one-digit zero n h = refl
+one-digit (suc most) n h = rw (lt-leb 10 n h)
+
+-- Another has one more than its tenth.
+pub one-more : (most n : ℕ) → 10 ≤ n → n < 10 ^ suc most → (less : ℕ) × (suc less ≡ most) × (sizeIn most n ≡ suc (sizeIn less (n / 10))) × (n / 10 < 10 ^ suc less)
+unfolding sizeIn
+one-more zero n h k = absurd (omega arith)
+one-more (suc most) n h k = (most, refl, rw (le-leb 10 n h), omega arith)
+
+pub size-most : (most n : ℕ) → sizeIn most n ≤ suc most
+unfolding sizeIn
+size-most zero n = omega arith
+size-most (suc most) n = most-by (leb 10 n) (sizeIn most (n / 10)) (size-most most (n / 10))
+  where
+    most-by : {most : ℕ} (b : Bool) (k : ℕ) → k ≤ suc most → cond b (suc k) 1 ≤ suc (suc most)
+    most-by true k h = omega arith
+    most-by false k h = omega arith
+
+pub length-digits : (k n : ℕ) → length (digits k n) ≡ k
+unfolding digits
+length-digits zero n = refl
+length-digits (suc k) n = length-append (digits k (n / 10)) _ ∙ rw (length-digits k (n / 10)) (omega arith)
+
+-- A number and the byte after it take at most 21 bytes.
+pub cell-most : (n after : ℕ) → length (cell n after) ≤ 21
+cell-most n after = rw (length-append (digits (size n) n) (after ∷ []), length-digits (size n) n) (omega (arith, size-most 19 n))
+
+pub spaced-most : (ns : List ℕ) → length (spaced ns) ≤ 21 * length ns
+unfolding spaced
+spaced-most [] = omega arith
+spaced-most (n ∷ ns) = rw (length-append (cell n 32) (spaced ns)) (omega (arith, cell-most n 32, spaced-most ns))
+
+-- A line takes at most 189 bytes.
+pub line-most : (place : ℕ) (o : Outcome) → length (lineOf place o) ≤ 189
+line-most place o =
+    rw (length-append (spaced (firstEight place o)) (cell (o .ending) 10))
+    (omega (arith, spaced-most (firstEight place o), cell-most (o .ending) 10))

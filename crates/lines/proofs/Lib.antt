@@ -1,0 +1,5 @@
+pub mod Blocks
+pub mod Digits
+pub mod Going
+pub mod Turning
+pub mod Writing

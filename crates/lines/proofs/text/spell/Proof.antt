@@ -1,0 +1,88 @@
+-- The digits that are left, stored over what is there, give the whole: each turn stores the last of them.
+use Prim.Native.Nat.{ℕ, zero, suc, _+_, _-_, _/_, _%_, _≤_}
+use mathlib.Core.Path.{_≡_, refl, sym, ap, _∙_}
+use mathlib.Core.List.{List}
+use native.Mathlib.Omega.{arith}
+use lib.ListN.{length, set, length-set}
+use lib.Seq.{sets}
+use Rattle.lines.specs.Text.{digits}
+use Rattle.lines.proofs.Digits.{length-digits}
+use Rattle.lines.proofs.Writing.{last-first}
+use Rattle.lines.proofs.text.spell.Statement.{statement}
+use Rattle.lines.proofs.text.spell.Tie as tie
+
+abbrev Inv-loop : tie.InvT-loop
+Inv-loop n k out₀ at i₀ rest₀ out i rest = (i ≤ k) × (length out ≡ length out₀) × (sets out at (digits i rest) ≡ sets out₀ at (digits k n))
+
+abbrev μ-loop : tie.MeasureT-loop
+μ-loop n k out₀ at i₀ rest₀ out i rest = i
+
+-- one digit less is left
+one-less : (out : List ℕ) (at i rest : ℕ) → 1 ≤ i → sets (set out (at + (i - 1)) (48 + rest % 10)) at (digits (i - 1) (rest / 10)) ≡ sets out at (digits i rest)
+unfolding digits
+one-less out at zero rest h = absurd (omega arith)
+one-less out at (suc i) rest h =
+    let back : suc i - 1 ≡ i = omega arith in
+    let there : length (digits i (rest / 10)) ≡ i = length-digits i (rest / 10) in
+    rw back
+    (sym
+    (last-first out at (digits i (rest / 10)) (48 + rest % 10)
+    ∙ ap (λ (k : ℕ). sets (set out (at + k) (48 + rest % 10)) at (digits i (rest / 10))) there))
+
+loop-holds : tie.Need-loop-holds Inv-loop μ-loop
+loop-holds c = (omega arith, refl, refl)
+
+sub-i : tie.Need-sub-i Inv-loop μ-loop
+sub-i c = omega (arith, c .loop-test .taken)
+
+cast-out : tie.Need-cast-out Inv-loop μ-loop
+cast-out c = omega arith
+
+add-out : tie.Need-add-out Inv-loop μ-loop
+add-out c = omega arith
+
+add-out-2 : tie.Need-add-out-2 Inv-loop μ-loop
+add-out-2 c = omega (arith, c .before .loop .inv, c .before .before .pre, c .before .before .good)
+
+slice-write-out : tie.Need-slice-write-out Inv-loop μ-loop
+slice-write-out c = omega (arith, c .before .loop .inv, c .before .before .pre, c .loop-test .taken)
+
+loop-less : tie.Need-loop-less Inv-loop μ-loop
+loop-less c = omega (arith, c .loop-test .taken)
+
+loop-again : tie.Need-loop-again Inv-loop μ-loop
+loop-again c =
+    let now = c .before .loop .inv in (
+      omega (arith, now .0),
+      length-set (c .before .loop .out) _ _ ∙ now .1,
+      one-less (c .before .loop .out) (c .before .before .args .at) (c .before .loop .i) (c .before .loop .rest) (c .loop-test .taken) ∙ now .2,
+    )
+
+same-length : tie.Need-same-length Inv-loop μ-loop
+same-length c = c .before .loop .inv .1
+
+-- none is left
+done : (out : List ℕ) (at i rest : ℕ) → i ≤ 0 → out ≡ sets out at (digits i rest)
+unfolding digits
+done out at zero rest h = refl
+done out at (suc i) rest h = absurd (omega arith)
+
+returns : tie.Need-returns Inv-loop μ-loop
+returns c = done (c .before .loop .out) (c .before .before .args .at) (c .before .loop .i) (c .before .loop .rest) (c .loop-test .left) ∙ c .before .loop .inv .2
+
+pub spell-spec : {M : Type 1} → statement M
+spell-spec =
+    tie.close
+    (tie.spec
+    Inv-loop
+    μ-loop
+    loop-holds
+    sub-i
+    cast-out
+    add-out
+    add-out-2
+    slice-write-out
+    loop-less
+    loop-again
+    same-length
+    returns)

@@ -1,0 +1,186 @@
+// Events in, lines out: how the bytes of a stream become the lines of the station program.
+mod text;
+
+use crate::text::cell;
+use crate::text::cells;
+use records::NewId;
+use records::OldId;
+use records::Record;
+use records::SIZE;
+use records::stream::Piece;
+use records::stream::cut;
+use std::num::wrapping_add_u64;
+use table::Answer;
+use table::Outcome;
+use table::Station;
+ghost use mathlib.Core.Path.{_≡_};
+ghost use Prim.Native.Nat.{_+_, _≤_, min};
+ghost use mathlib.Core.List.{[]};
+ghost use lib.ListN.{length};
+ghost use lib.Seq.{sets};
+ghost use Rattle.records.specs.Stream.{pieceAt};
+ghost use Rattle.table.specs.Events.{silence};
+ghost use Rattle.table.specs.Reached.{Reached};
+ghost use Rattle.lines.specs.Lines.{lineOf, sizeOf, isWhole, answerTo, newRun, workOf, progress, leftIn};
+
+// The longest line: nine numbers of at most 20 digits, and a byte after each.
+pub const LONGEST: usize = 189;
+
+// A station at work on a stream, and the place of the next event, from 1.
+pub struct Run {
+    pub station: Station,
+    pub place: u64,
+}
+
+// How far a run came in a block: the bytes taken of it, and the bytes of lines written.
+pub struct Progress {
+    pub run: Run,
+    pub taken: usize,
+    pub written: usize,
+}
+
+// Writes a line from a place on, and answers the next place.
+fn line(place: u64, o: Outcome, out: &mut [u8], at: usize) -> usize
+    requires { ⌜ at + 189 ≤ length (now out) ⌝ }
+    ensures { λ r. ⌜ (r ≡ at + length (lineOf place o)) × (now (out .exit) ≡ sets (now (out .entry)) at (lineOf place o)) ⌝ }
+{
+    let m = o.message;
+    let old = m.old;
+    let new = m.new;
+    let numbers = [
+        place,
+        o.reply as u64,
+        m.kind as u64,
+        m.neighbour as u64,
+        old.0 as u64,
+        new.0 as u64,
+        m.first as u64,
+        m.second as u64,
+    ];
+    let next = cells(numbers, out, at);
+    cell(o.ending as u64, 10, out, next)
+}
+
+// Whether what stands at the front of so many bytes is an event, whatever comes after them.
+fn is_whole(piece: Piece, left: usize, ended: bool) -> bool
+    requires { ⌜ sizeOf piece ≤ left ⌝ }
+    ensures { λ r. ⌜ r ≡ isWhole ended left piece ⌝ }
+{
+    match piece {
+        Piece::Nothing => false,
+        Piece::Short(_) => ended,
+        Piece::Single(_, _) => true,
+        Piece::Request(r, next) => {
+            ended | (next == SIZE + r.number as usize * SIZE) | (SIZE <= left - next)
+        }
+    }
+}
+
+// How many bytes an event has.
+fn size_of(piece: Piece) -> usize
+    ensures { λ r. ⌜ r ≡ sizeOf piece ⌝ }
+{
+    match piece {
+        Piece::Nothing => 0,
+        Piece::Short(next) => next,
+        Piece::Single(_, next) => next,
+        Piece::Request(_, next) => next,
+    }
+}
+
+// A record of no kind: what a short piece is to a station.
+fn nothing() -> Record
+    ensures { λ r. ⌜ r ≡ silence ⌝ }
+{
+    Record {
+        kind: 0,
+        neighbour: 0,
+        old: OldId(0),
+        new: NewId(0),
+        first: 0,
+        second: 0,
+        reason: 0,
+        byte11: 0,
+        number: 0,
+        time: 0,
+        erab: 0,
+        qci: 0,
+        priority: 0,
+        flags: 0,
+        bytes28: 0,
+    }
+}
+
+// A station's answer to what stands at the front of some bytes.
+fn answered(station: Station, piece: Piece, bytes: &[u8]) -> Answer
+    requires { ⌜ Reached station × (piece ≡ pieceAt (now bytes) 0) ⌝ }
+    ensures { λ a. ⌜ a ≡ answerTo station (now (bytes .entry)) piece ⌝ }
+{
+    match piece {
+        Piece::Nothing => station.step(nothing()),
+        Piece::Short(_) => station.step(nothing()),
+        Piece::Single(r, _) => station.step(r),
+        Piece::Request(r, next) => {
+            let mut verdicts = [0u8; 256];
+            station.request(r, &bytes[SIZE..next], &mut verdicts)
+        }
+    }
+}
+
+// Carries what is left of the bytes held in a block, after those taken, to its front, and answers how many these are.
+pub fn carry(block: &mut [u8], taken: usize, held: usize) -> usize
+    ensures { λ r. ⌜ (r ≡ length (leftIn taken held (now (block .entry)))) × (now (block .exit) ≡ sets (now (block .entry)) 0 (leftIn taken held (now (block .entry)))) ⌝ }
+{
+    let end = least(held, block.len());
+    if end <= taken {
+        return 0;
+    }
+    let left = end - taken;
+    for i in 0..left {
+        block[i] = block[taken + i];
+    }
+    left
+}
+
+fn least(a: usize, b: usize) -> usize
+    ensures { λ r. ⌜ r ≡ min a b ⌝ }
+{
+    if a < b { a } else { b }
+}
+
+impl Run {
+    // A run with the settings of the station program.
+    pub fn new() -> Run
+        ensures { λ r. ⌜ r ≡ newRun ⌝ }
+    {
+        let birth = Station::new(100, 50, 2000, 3000);
+        let station = birth.station;
+        Run { station, place: 1 }
+    }
+
+    // Answers the events at the front of a block of the stream, one after the other, and writes a line for each, while they are
+    // whole and the longest line has room. What comes after the block can change none of them; `ended` says that nothing does.
+    pub fn answer(self, bytes: &[u8], ended: bool, out: &mut [u8]) -> Progress
+        requires { ⌜ Reached (self .station) ⌝ }
+        ensures { λ r. ⌜ (r ≡ progress (workOf ended (length (now (out .entry))) (now (bytes .entry)) self)) × (now (out .exit) ≡ sets (now (out .entry)) 0 (workOf ended (length (now (out .entry))) (now (bytes .entry)) self .text)) ⌝ }
+    {
+        let mut station = self.station;
+        let mut place = self.place;
+        let mut taken: usize = 0;
+        let mut written: usize = 0;
+        let mut piece = cut(bytes, 0);
+        while is_whole(piece, bytes.len() - taken, ended) & (LONGEST <= out.len() - written) {
+            let a = answered(station, piece, &bytes[taken..]);
+            written = line(place, a.outcome, out, written);
+            station = a.station;
+            place = wrapping_add_u64(place, 1);
+            taken += size_of(piece);
+            piece = cut(&bytes[taken..], 0);
+        }
+        Progress {
+            run: Run { station, place },
+            taken,
+            written,
+        }
+    }
+}
