@@ -67,17 +67,17 @@ abbrev pub someHeld : Incoming → Bool
 someHeld NotHeld = false
 someHeld (Held other admitted) = true
 
--- what a record of the table is, seen by a neighbour: a serving one is neither, and has no deadline
+-- what a record of the table is towards a neighbour: a serving one is neither, and has no deadline
 abbrev pub outOf : ℕ → Entry → Outgoing
 outOf p r =
-    cond (eqb (r .neighbour) p && eqb (r .state) 1) Preparing
-    (cond (eqb (r .neighbour) p && eqb (r .state) 2) (Prepared (r .new .0) (r .admitted)) NotOut)
+    cond (eqb (r .state) 1 && eqb (r .neighbour) p) Preparing
+    (cond (eqb (r .state) 2 && eqb (r .neighbour) p) (Prepared (r .new .0) (r .admitted)) NotOut)
 
 abbrev pub heldOf : ℕ → Entry → Incoming
-heldOf p r = cond (eqb (r .neighbour) p && eqb (r .state) 3) (Held (r .old .0) (r .admitted)) NotHeld
+heldOf p r = cond (eqb (r .state) 3 && eqb (r .neighbour) p) (Held (r .old .0) (r .admitted)) NotHeld
 
 abbrev pub dueOf : ℕ → Entry → Option ℕ
-dueOf p r = cond (eqb (r .neighbour) p && leb 1 (r .state) && leb (r .state) 3) (some (r .deadline)) none
+dueOf p r = cond (leb 1 (r .state) && leb (r .state) 3 && eqb (r .neighbour) p) (some (r .deadline)) none
 
 -- the record that has an own ID, a free place if none has
 abbrev pub recordAt : Found → Station → Entry
@@ -224,8 +224,10 @@ pub record Laws (s : Station) : Type 0 where
 
 -- What holds of every step from such a station.
 pub record StepLaws (s : Station) (e : Record) (a : Answer) : Type 0 where
+  -- a request or an acknowledge that is sent has an own ID that is new; else none is
   pub issue : (i : ℕ) → issued a ≡ some i → Issues i s a
   pub no-issue : issued a ≡ none → IssuesNone s a
+  -- what becomes of the outgoing records towards each neighbour, and of those held for it
   pub source : (p : ℕ) → Source p s e a
   pub target : (p : ℕ) → Target p s e a
   -- a prepared record is moved by the release that has its neighbour and both its IDs
