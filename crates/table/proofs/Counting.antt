@@ -100,7 +100,7 @@ all-used (suc n) c rs used =
     (λ t. absurd (true≢false (sym (rw t at used) ∙ t)))
 
 -- A record has one own ID, and a free place none.
-own-is : (k : ℕ) (r : Entry) → ownIs k r ≡ true → eqb k (own r) ≡ true
+pub own-is : (k : ℕ) (r : Entry) → ownIs k r ≡ true → eqb k (own r) ≡ true
 own-is k r used =
     by-cases (isOutgoing r)
     (λ t.
@@ -115,7 +115,7 @@ own-is k r used =
 own-times : (k : ℕ) (r : Entry) → ownTimes k r ≤ is (own r) k
 own-times k r = once-le (ownIs k r) (eqb k (own r)) (own-is k r)
 
-own-free : (k : ℕ) (r : Entry) → isFree r ≡ true → ownTimes k r ≡ 0
+pub own-free : (k : ℕ) (r : Entry) → isFree r ≡ true → ownTimes k r ≡ 0
 own-free k r free = rw (eqb-true (r .state) 0 free)
 
 -- Of 64 numbers a record has at most one for its own.

@@ -1,4 +1,4 @@
--- What a decision keeps.
+-- What is decided of a record.
 use Prim.Native.Nat.{ℕ, zero, suc, _≤_}
 use mathlib.Core.Path.{_≡_, refl}
 use mathlib.Core.Bool.{Bool, true, false, not, _&&_, _||_}
@@ -9,8 +9,9 @@ use lib.Dec.{eqb}
 use lib.ListN.{getD}
 use Rattle.laws.proofs.Tests.{by-cases, both-true}
 use Rattle.records.specs.declared.Record.{Record}
+use Rattle.table.specs.declared.Decision.{Decision}
 use Rattle.table.specs.declared.Entry.{Entry}
-use Rattle.table.specs.Events.{actions, actionOf, decide, listsFit, setFits, prepared, stored, serving}
+use Rattle.table.specs.Events.{actions, actionOf, message, silence, decision, refusal, decide, lastWord, listsFit, setFits, prepared, stored, serving}
 use Rattle.table.specs.Numbers.{blank}
 
 -- ---- where an action stands
@@ -39,7 +40,39 @@ stands action k s kind state some test t =
     let both : (eqb kind k ≡ true) × (eqb state s ≡ true) = both-true (eqb kind k) (eqb state s) (rw t at here) in
     (eqb-true kind k (both .0), eqb-true state s (both .1))
 
--- ---- the records that a decision makes
+-- ---- the decisions
+
+-- whether an action leaves the record in the table
+abbrev pub leaves : ℕ → Bool
+leaves action = eqb action 0 || eqb action 11 || eqb action 12 || eqb action 13 || eqb action 8
+
+-- What holds of each decision that there is holds of what is decided.
+pub decide-as : (P : Decision → Type 0) (e : Record) (r : Entry) (deadline : ℕ)
+    → P (refusal 6 r) → P (refusal 7 r)
+    → (e .kind ≡ 2 → r .state ≡ 1 → listsFit r e ≡ true → P (decision 0 0 silence (prepared r e deadline)))
+    → (r .state ≡ 3 → setFits r e ≡ true → P (decision 0 0 silence (stored r e)))
+    → P (decision 0 0 (message 4 (r .neighbour) (r .old .0) (r .new .0) (e .first) 0 0) r)
+    → (e .kind ≡ 11 → r .state ≡ 3 → P (decision 0 8 (message 5 (r .neighbour) (r .old .0) (r .new .0) 0 0 0) (serving r)))
+    → (leaves (actionOf (e .kind) (r .state)) ≡ false → P (decision 0 (actionOf (e .kind) (r .state)) (lastWord e r) blank))
+    → P (decide e r deadline)
+decide-as P e r deadline six seven acknowledged status forwarded arrived ended =
+    let action = actionOf (e .kind) (r .state) in
+    by-cases (eqb action 0) (λ t. rw t six)
+    (λ t. by-cases (eqb action 11)
+    (λ u.
+    let there = stands 11 2 1 (e .kind) (r .state) refl refl u in
+    rw (t, u) (by-cases (listsFit r e) (λ v. rw v (acknowledged (there .0) (there .1) v)) (λ v. rw v seven)))
+    (λ u. by-cases (eqb action 12)
+    (λ w.
+    let there = stands 12 4 3 (e .kind) (r .state) refl refl w in
+    rw (t, u, w) (by-cases (setFits r e) (λ v. rw v (status (there .1) v)) (λ v. rw v seven)))
+    (λ w. by-cases (eqb action 13)
+    (λ x. rw (t, u, w, x) (by-cases (setFits r e) (λ v. rw v forwarded) (λ v. rw v seven)))
+    (λ x. by-cases (eqb action 8)
+    (λ y.
+    let there = stands 8 11 3 (e .kind) (r .state) refl refl y in
+    rw (t, u, w, x, y) (arrived (there .0) (there .1)))
+    (λ y. rw (t, u, w, x, y) (ended (rw (t, u, w, x, y))))))))
 
 -- What holds of the record, of a free place, and of each of the three other records that a decision makes, holds of what is decided.
 pub decide-keeps : (P : Entry → Type 0) (e : Record) (r : Entry) (deadline : ℕ)
@@ -49,21 +82,7 @@ pub decide-keeps : (P : Entry → Type 0) (e : Record) (r : Entry) (deadline : �
     → (r .state ≡ 3 → P (serving r))
     → P (decide e r deadline .entry)
 decide-keeps P e r deadline same ended acknowledged status arrived =
-    let action = actionOf (e .kind) (r .state) in
-    by-cases (eqb action 0) (λ t. rw t same)
-    (λ t. by-cases (eqb action 11)
-    (λ u.
-    let there = stands 11 2 1 (e .kind) (r .state) refl refl u in
-    rw (t, u) (by-cases (listsFit r e) (λ v. rw v (acknowledged (there .0) (there .1) v)) (λ v. rw v same)))
-    (λ u. by-cases (eqb action 12)
-    (λ w.
-    let there = stands 12 4 3 (e .kind) (r .state) refl refl w in
-    rw (t, u, w) (by-cases (setFits r e) (λ v. rw v (status (there .1) v)) (λ v. rw v same)))
-    (λ w. by-cases (eqb action 13)
-    (λ x. rw (t, u, w, x) (by-cases (setFits r e) (λ v. rw v same) (λ v. rw v same)))
-    (λ x. by-cases (eqb action 8)
-    (λ y. rw (t, u, w, x, y) (arrived (stands 8 11 3 (e .kind) (r .state) refl refl y .1)))
-    (λ y. rw (t, u, w, x, y) ended)))))
+    decide-as (λ d. P (d .entry)) e r deadline same same acknowledged status same (λ _ three. arrived three) (λ _. ended)
 
 -- No decision gives a record more units.
 pub decide-units : (e : Record) (r : Entry) (deadline : ℕ) → decide e r deadline .entry .units ≤ r .units

@@ -18,12 +18,13 @@ isOf n r = not (isFree r) && eqb (r .neighbour) n
 pub of-other : (n : ℕ) (r : Entry) → (r .neighbour ≡ n → ⊥) → isOf n r ≡ false
 of-other n r other = by-cases (isFree r) (λ t. rw t) (λ t. rw t (ne-eqb (r .neighbour) n other))
 
--- The record's state is one of those looked at, and its neighbour and its Old ID are the event's where they are compared.
+-- The record's state is one of those looked at, and its neighbour and its IDs are the event's where they are compared.
 pub record Keyed (by : ℕ → ℕ) (e : Record) (r : Entry) : Type 0 where
   pub first : by 0 ≤ r .state
   pub last : r .state ≤ by 1
   pub neighbour : (eqb (by 2) 0 || eqb (r .neighbour) (e .neighbour)) ≡ true
   pub old : (eqb (by 3) 0 || eqb (r .old .0) (e .old .0)) ≡ true
+  pub new : newFits (by 4) e r ≡ true
 
 pub keyed-means : (by : ℕ → ℕ) (e : Record) (r : Entry) → keyed by e r ≡ true → Keyed by e r
 keyed-means by e r t =
@@ -31,7 +32,8 @@ keyed-means by e r t =
     let high = leb (r .state) (by 1) in
     let neighbour = eqb (by 2) 0 || eqb (r .neighbour) (e .neighbour) in
     let old = eqb (by 3) 0 || eqb (r .old .0) (e .old .0) in
-    let four = both-true (low && high && neighbour) old (both-true (low && high && neighbour && old) (newFits (by 4) e r) t .0) in
+    let five = both-true (low && high && neighbour && old) (newFits (by 4) e r) t in
+    let four = both-true (low && high && neighbour) old (five .0) in
     let three = both-true (low && high) neighbour (four .0) in
     let two = both-true low high (three .0) in
-    record { first = leb-true (by 0) (r .state) (two .0); last = leb-true (r .state) (by 1) (two .1); neighbour = three .1; old = four .1 }
+    record { first = leb-true (by 0) (r .state) (two .0); last = leb-true (r .state) (by 1) (two .1); neighbour = three .1; old = four .1; new = five .1 }

@@ -1,3 +1,5 @@
+pub mod Answers
+pub mod Bounds
 pub mod Changes
 pub mod Counting
 pub mod Deciding
@@ -5,8 +7,10 @@ pub mod Finding
 pub mod Fits
 pub mod Forms
 pub mod Guests
+pub mod Interface
 pub mod Issuing
 pub mod Keys
+pub mod Making
 pub mod Neighbours
 pub mod Once
 pub mod Orderless
@@ -15,8 +19,11 @@ pub mod Replies
 pub mod Requests
 pub mod Resetting
 pub mod Rows
+pub mod Sides
 pub mod Soundness
 pub mod Strangers
 pub mod Tally
 pub mod Ticks
+pub mod Turns
 pub mod Units
+pub mod Viewing

@@ -46,7 +46,7 @@ agree-same n s t agree =
 -- ---- a record is found at one place only
 
 -- What at most one record counts for, two places do not.
-once-at : (f : Entry → ℕ) (rs : List Entry) (i j : ℕ) → f blank ≡ 0 → i < length rs → j < length rs → tally f rs ≤ 1 → f (getD rs i blank) ≡ 1 → f (getD rs j blank) ≡ 1 → i ≡ j
+pub once-at : (f : Entry → ℕ) (rs : List Entry) (i j : ℕ) → f blank ≡ 0 → i < length rs → j < length rs → tally f rs ≤ 1 → f (getD rs i blank) ≡ 1 → f (getD rs j blank) ≡ 1 → i ≡ j
 once-at f rs i j none h k once first second =
     by-cases (eqb j i) (λ t. sym (eqb-true j i t))
     (λ t.
@@ -55,7 +55,7 @@ once-at f rs i j none h k once first second =
     absurd (omega (arith, rw (getD-set-other rs i j blank blank (eqb-false j i t)) at more)))
 
 -- A record has its own ID.
-own-itself : (r : Entry) → isFree r ≡ false → ownTimes (own r) r ≡ 1
+pub own-itself : (r : Entry) → isFree r ≡ false → ownTimes (own r) r ≡ 1
 own-itself r used =
     by-cases (isOutgoing r) (λ t. rw (t, eq-eqb (r .old .0) (r .old .0) refl))
     (λ t.
@@ -145,7 +145,7 @@ has-put n s t sound other i j r h k same has p small mine =
     (found .0, found .1, getD-set-other (t .entries) j (found .0) r blank apart ∙ found .2 ∙ sym kept))
 
 -- Where a test holds of no record, it fails at every place.
-none-at : (test : Entry → Bool) (rs : List Entry) (i : ℕ) → i < length rs → anyOf test rs ≡ false → test (getD rs i blank) ≡ false
+pub none-at : (test : Entry → Bool) (rs : List Entry) (i : ℕ) → i < length rs → anyOf test rs ≡ false → test (getD rs i blank) ≡ false
 none-at test rs i h none =
     by-cases (test (getD rs i blank))
     (λ t.

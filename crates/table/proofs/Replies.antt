@@ -17,12 +17,13 @@ use Rattle.table.specs.declared.Entry.{Entry}
 use Rattle.table.specs.declared.Found.{Found}
 use Rattle.table.specs.declared.Found.the-variants.{At, Nothing}
 use Rattle.table.specs.declared.Station.{Station}
-use Rattle.table.specs.Events.{about, actionOf, decide, key, keyed, listsFit, setFits, refusal, silence}
+use Rattle.table.specs.Events.{about, decide, key, keyed, refusal, silence}
 use Rattle.table.specs.Fields.{wellFormed}
 use Rattle.table.specs.Numbers.{isFree, blank}
 use Rattle.table.specs.Sound.{Sound}
 use Rattle.table.specs.Step.{refused, carried, aboutOne, startAt, tickAt, tickOf, requestOf, repeatOf, admittedAt, failure, admission, complete, taken, stepOf}
 use Rattle.table.specs.Table.{find, soonest, at, put, betterBy, dueBy, sooner, dueFrom}
+use Rattle.table.proofs.Deciding.{decide-as}
 use Rattle.table.proofs.Finding.{found-at}
 use Rattle.table.proofs.Keys.{keyed-means}
 use Rattle.table.proofs.Tally.{tally-at}
@@ -40,17 +41,7 @@ pub record Proper (s : Station) (e : Record) (a : Answer) : Type 0 where
 -- What is decided of a record is done, or one of the two refusals, which leave it as it was.
 decide-or : (P : Decision → Type 0) (e : Record) (r : Entry) (deadline : ℕ) → ((d : Decision) → d .reply ≡ 0 → P d) → P (refusal 6 r) → P (refusal 7 r) → P (decide e r deadline)
 decide-or P e r deadline done six seven =
-    let action = actionOf (e .kind) (r .state) in
-    by-cases (eqb action 0) (λ t. rw t six)
-    (λ t. by-cases (eqb action 11)
-    (λ u. rw (t, u) (by-cases (listsFit r e) (λ v. rw v (done _ refl)) (λ v. rw v seven)))
-    (λ u. by-cases (eqb action 12)
-    (λ w. rw (t, u, w) (by-cases (setFits r e) (λ v. rw v (done _ refl)) (λ v. rw v seven)))
-    (λ w. by-cases (eqb action 13)
-    (λ x. rw (t, u, w, x) (by-cases (setFits r e) (λ v. rw v (done _ refl)) (λ v. rw v seven)))
-    (λ x. by-cases (eqb action 8)
-    (λ y. rw (t, u, w, x, y) (done _ refl))
-    (λ y. rw (t, u, w, x, y) (done _ refl))))))
+    decide-as P e r deadline six seven (λ _ _ _. done _ refl) (λ _ _. done _ refl) (done _ refl) (λ _ _. done _ refl) (λ _. done _ refl)
 
 -- A place may be given the record that it has: the units in use are then what they were.
 put-same : (s : Station) (i : ℕ) → Sound s → i < 64 → put i (getD (s .entries) i blank) s ≡ s

@@ -48,6 +48,14 @@ unfolding tally
 tally-le-at f g [] d le = omega arith
 tally-le-at f g (r ∷ rs) d le = omega (arith, le 0 (omega arith), tally-le-at f g rs d (λ i h. le (suc i) (omega arith)))
 
+-- Where at each place one table has at most another's number, it has at most the other's sum.
+pub tally-le-across : (f : Entry → ℕ) (xs ys : List Entry) (d : Entry) → length xs ≡ length ys → ((i : ℕ) → i < length xs → f (getD xs i d) ≤ f (getD ys i d)) → tally f xs ≤ tally f ys
+unfolding tally
+tally-le-across f [] ys d same le = omega arith
+tally-le-across f (x ∷ xs) [] d same le = absurd (omega arith)
+tally-le-across f (x ∷ xs) (y ∷ ys) d same le =
+    omega (arith, le 0 (omega arith), tally-le-across f xs ys d (omega arith) (λ i h. le (suc i) (omega arith)))
+
 -- Two numbers for each record, added up, are the two sums.
 pub tally-add : (f g : Entry → ℕ) (rs : List Entry) → tally (λ r. f r + g r) rs ≡ tally f rs + tally g rs
 unfolding tally

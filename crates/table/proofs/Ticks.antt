@@ -253,6 +253,16 @@ module _ (e : Record) (kind : e .kind ≡ 15) where
             let nine : _≡_ {A = ℕ} 9 0 = rw (tick-none s bearers room late found) at done in
             absurd (omega arith)
 
+    -- A tick with reply 9 finds none due.
+    pub tick-nine : (s : Station) (bearers : List ℕ) (room : ℕ) → stepOf s e bearers room .outcome .reply ≡ 9 → dues e s ≡ 0
+    tick-nine s bearers room nine =
+        by-cases (ltb (e .time) (s .clock))
+        (λ t.
+        let early : stepOf s e bearers room ≡ refused 8 s = by-kind s e bearers room formed 15 kind ∙ rw t in
+        let eight : _≡_ {A = ℕ} 8 9 = rw early at nine in
+        absurd (omega arith))
+        (λ t. ⊎-elim (λ one. absurd (omega (arith, one .0))) (λ none. none .1) (tick-fewer s bearers room t (soonest e s) refl .1))
+
     -- Each tick with reply 0 leaves one due record fewer.
     pub tick-counts : (s : Station) (bearers : List ℕ) (room : ℕ) → ltb (e .time) (s .clock) ≡ false → stepOf s e bearers room .outcome .reply ≡ 0 → dues e (stepOf s e bearers room .station) + 1 ≡ dues e s
     tick-counts s bearers room late zero-reply =

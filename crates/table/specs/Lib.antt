@@ -5,3 +5,4 @@ pub mod Table
 pub mod Sound
 pub mod Step
 pub mod Reached
+pub mod Views

@@ -1,0 +1,244 @@
+-- What one step does to the records of a table, each at its place: it makes one in a free place, or each stays, changes or ends.
+use Prim.Native.Nat.{ℕ, _+_, _<_}
+use mathlib.Core.Path.{_≡_, refl, subst}
+use mathlib.Core.Bool.{Bool, true, false, not, _&&_, _||_, false≢true}
+use mathlib.Core.List.{List, []}
+use borrow.Author.Tests.{eqb-true, eqb-false, not-true}
+use native.Mathlib.Omega.{arith}
+use lib.Dec.{leb, ltb, eqb}
+use lib.ListN.{getD}
+use lib.Seq.{getD-set-same, getD-set-other}
+use Rattle.laws.proofs.Tests.{by-cases, both-true}
+use Rattle.records.specs.declared.Record.{Record}
+use Rattle.bearers.specs.declared.Admission.{Admission}
+use Rattle.table.specs.declared.Answer.{Answer}
+use Rattle.table.specs.declared.Decision.{Decision}
+use Rattle.table.specs.declared.Entry.{Entry}
+use Rattle.table.specs.declared.Found.{Found}
+use Rattle.table.specs.declared.Found.the-variants.{At, Nothing}
+use Rattle.table.specs.declared.Station.{Station}
+use Rattle.table.specs.Events.{key, keyed, about, actions, actionOf, message, lastWord, decide, prepared, stored, serving}
+use Rattle.table.specs.Fields.{wellFormed}
+use Rattle.table.specs.Numbers.{isFree, isOutgoing, blank}
+use Rattle.table.specs.Sound.{Sound}
+use Rattle.table.specs.Step.{answer, refused, carried, aboutOne, resetOf, issue, started, startAt, tickAt, tickOf, taken, complete, admission, heldFor, failure, admittedAt, repeatOf, requestOf, stepOf}
+use Rattle.table.specs.Table.{find, soonest, at, add}
+use Rattle.table.specs.Views.{sent, ending, isOtherEnding}
+use Rattle.table.proofs.Changes.{sound-at}
+use Rattle.table.proofs.Deciding.{every, every-at, leaves, decide-as}
+use Rattle.table.proofs.Finding.{found-at}
+use Rattle.table.proofs.Forms.{time-within}
+use Rattle.table.proofs.Keys.{Keyed, keyed-means}
+use Rattle.table.proofs.Neighbours.{reset-kind}
+use Rattle.table.proofs.Placing.{found-place, due-place}
+use Rattle.table.proofs.Resetting.{reset-at}
+use Rattle.table.proofs.Ticks.{soonest-due}
+
+-- ---- what becomes of one record
+
+-- how a record ends with an ending: if it is outgoing, by a failure for it, by a release for it, or by one of the other four
+pub data Final (e : Record) (z : ℕ) (x : Entry) : Type 0 where
+  incoming : isOutgoing x ≡ false → Final e z x
+  by-failure : z ≡ 1 → e .kind ≡ 3 → x .neighbour ≡ e .neighbour → x .old .0 ≡ e .old .0 → Final e z x
+  by-release : z ≡ 3 → e .kind ≡ 5 → x .neighbour ≡ e .neighbour → x .old .0 ≡ e .old .0 → x .state ≡ 2 → x .new .0 ≡ e .new .0 → Final e z x
+  by-other : isOtherEnding z ≡ true → Final e z x
+
+-- what stands at a place after a step, that had a record or none before it
+pub data Change (e : Record) (z : ℕ) (x : Entry) : Entry → Type 0 where
+  stays : Change e z x x
+  stores : Change e z x (stored x e)
+  prepares : (deadline : ℕ) → wellFormed e ≡ true → e .kind ≡ 2 → x .state ≡ 1 → x .neighbour ≡ e .neighbour → x .old .0 ≡ e .old .0 → Change e z x (prepared x e deadline)
+  serves : x .state ≡ 3 → Change e z x (serving x)
+  ends : (e .kind ≡ 2 → ⊥) → Final e z x → Change e z x blank
+
+-- ---- what is said
+
+-- no request, acknowledge, failure or release
+abbrev pub isOther : ℕ → Bool
+isOther k = not (eqb k 1 || eqb k 2 || eqb k 3 || eqb k 5)
+
+-- a failure for a request that is taken, a release of a record that was held when its UE arrived, or none of the four
+pub data Says (rs : List Entry) (e m : Record) : Type 0 where
+  other : isOther (m .kind) ≡ true → Says rs e m
+  refuses : (reply : ℕ) → e .kind ≡ 1 → m ≡ message 3 (e .neighbour) (e .old .0) 0 0 0 reply → Says rs e m
+  releases : (j : ℕ) → j < 64 → e .kind ≡ 11 → getD rs j blank .state ≡ 3 → getD rs j blank .new .0 ≡ e .new .0
+      → m ≡ message 5 (getD rs j blank .neighbour) (getD rs j blank .old .0) (getD rs j blank .new .0) 0 0 0 → Says rs e m
+
+-- ---- the step
+
+-- no record is made, and no own ID issued
+pub record Turned (s : Station) (e : Record) (a : Answer) : Type 0 where
+  pub last : a .station .last ≡ s .last
+  pub change : (j : ℕ) → j < 64 → Change e (ending a) (getD (s .entries) j blank) (getD (a .station .entries) j blank)
+  pub says : Says (s .entries) e (sent a)
+
+-- a start or a request makes one, or none is made
+pub data Turn (s : Station) (e : Record) : Answer → Type 0 where
+  starts : (k : ℕ) → find isFree s ≡ At k → wellFormed e ≡ true → e .kind ≡ 9
+      → Turn s e (answer 0 0 0 (message 1 (e .neighbour) (issue s) 0 (e .first) 0 0) (add k (issue s) (started e s) s))
+  admits : (k : ℕ) → find isFree s ≡ At k → wellFormed e ≡ true → e .kind ≡ 1 → (a : Admission)
+      → Turn s e (answer 0 0 (a .count) (message 2 (e .neighbour) (e .old .0) (issue s) (a .admitted) (a .refused) 0) (add k (issue s) (heldFor e a s) s))
+  turns : {a : Answer} → Turned s e a → Turn s e a
+
+-- ---- a decision
+
+-- The keys of an event about a record, by its kind.
+keyed-by : (k : ℕ) (e : Record) (r : Entry) → e .kind ≡ k → about e r ≡ true → Keyed (key k) e r
+keyed-by k e r kind t = keyed-means (key k) e r (subst (λ (n : ℕ). keyed (key n) e r ≡ true) kind t)
+
+-- By one test of the table of actions: an action that leaves no record is not an acknowledge's, and ends an outgoing record in one of
+-- the ways named.
+abbrev final : ℕ → ℕ → ℕ → Bool
+final k st z = leaves z || not (eqb k 2) && (not (leb 1 st && leb st 2) || eqb z 1 && eqb k 3 || eqb z 3 && eqb k 5 && eqb st 2 || isOtherEnding z)
+
+finals : (k st : ℕ) → final k st (actionOf k st) ≡ true
+finals k st = every-at (final k) (getD actions k []) 0 st (every-at (λ i row. every (final i) row) actions [] k refl (λ j. refl)) (λ j. refl)
+
+module _ (e : Record) (r : Entry) (mine : about e r ≡ true) where
+  -- What is compared is the same.
+  same-neighbour : (k : ℕ) → e .kind ≡ k → eqb (key k 2) 0 ≡ false → r .neighbour ≡ e .neighbour
+  same-neighbour k kind compared = eqb-true (r .neighbour) (e .neighbour) (rw compared at (keyed-by k e r kind mine .neighbour))
+
+  same-old : (k : ℕ) → e .kind ≡ k → eqb (key k 3) 0 ≡ false → r .old .0 ≡ e .old .0
+  same-old k kind compared = eqb-true (r .old .0) (e .old .0) (rw compared at (keyed-by k e r kind mine .old))
+
+  -- A release has the New ID of a prepared record that it is about, an arrival that of any.
+  same-new : (k : ℕ) → e .kind ≡ k → eqb (key k 4) 0 ≡ false → eqb (key k 4) 3 ≡ false → (eqb (key k 4) 2 && eqb (r .state) 1) ≡ false → r .new .0 ≡ e .new .0
+  same-new k kind some any early =
+      by-cases (eqb (r .new .0) (e .new .0)) (λ t. eqb-true (r .new .0) (e .new .0) t)
+      (λ t. absurd (false≢true (rw (some, t, early, any) at (keyed-by k e r kind mine .new))))
+
+  -- So a record ends as the table says.
+  ended : (z : ℕ) → final (e .kind) (r .state) z ≡ true → leaves z ≡ false → Change e z r blank
+  ended z right none =
+      let out = leb 1 (r .state) && leb (r .state) 2 in
+      let failure = eqb z 1 && eqb (e .kind) 3 in
+      let release = eqb z 3 && eqb (e .kind) 5 && eqb (r .state) 2 in
+      let both = both-true (not (eqb (e .kind) 2)) (not out || failure || release || isOtherEnding z) (rw none at right) in
+      ends (eqb-false (e .kind) 2 (not-true (eqb (e .kind) 2) (both .0)))
+      (by-cases out
+      (λ o. by-cases failure
+      (λ t.
+      let at = both-true (eqb z 1) (eqb (e .kind) 3) t in
+      let kind = eqb-true (e .kind) 3 (at .1) in
+      by-failure (eqb-true z 1 (at .0)) kind (same-neighbour 3 kind refl) (same-old 3 kind refl))
+      (λ t. by-cases release
+      (λ u.
+      let at = both-true (eqb z 3 && eqb (e .kind) 5) (eqb (r .state) 2) u in
+      let kind = eqb-true (e .kind) 5 (both-true (eqb z 3) (eqb (e .kind) 5) (at .0) .1) in
+      let two = eqb-true (r .state) 2 (at .1) in
+      by-release (eqb-true z 3 (both-true (eqb z 3) (eqb (e .kind) 5) (at .0) .0)) kind (same-neighbour 5 kind refl) (same-old 5 kind refl) two
+      (same-new 5 kind refl refl (rw two)))
+      (λ u. by-other (rw (o, t, u) at (both .1)))))
+      (λ o. incoming o))
+
+-- The last word of a record is a cancel, an overtime or nothing.
+last-other : (e : Record) (r : Entry) → isOther (lastWord e r .kind) ≡ true
+last-other e r =
+    by-cases (eqb (e .kind) 10) (λ t. rw t)
+    (λ t. by-cases (eqb (e .kind) 15 && eqb (r .state) 1) (λ u. rw (t, u))
+    (λ u. by-cases (eqb (e .kind) 15 && eqb (r .state) 2) (λ v. rw (t, u, v)) (λ v. rw (t, u, v))))
+
+module _ (s : Station) (sound : Sound s) (e : Record) where
+  -- A decision about one record changes that one.
+  put-turned : (i : ℕ) → i < 64 → (d : Decision) → Change e (d .ending) (getD (s .entries) i blank) (d .entry) → Says (s .entries) e (d .message) → Turned s e (carried i d s)
+  put-turned i place d change says =
+      record {
+        last = refl;
+        change = λ j h.
+            by-cases (eqb j i)
+            (λ t. rw (eqb-true j i t, getD-set-same (s .entries) i (d .entry) blank (omega (arith, sound .places))) change)
+            (λ t. rw (getD-set-other (s .entries) i j (d .entry) blank (eqb-false j i t)) stays);
+        says = says;
+      }
+
+  -- Whatever is decided of a record that the event is about.
+  decided-turned : wellFormed e ≡ true → (i deadline : ℕ) → i < 64 → about e (getD (s .entries) i blank) ≡ true → Turned s e (carried i (decide e (getD (s .entries) i blank) deadline) s)
+  decided-turned formed i deadline place mine =
+      let r = getD (s .entries) i blank in
+      decide-as (λ d. Turned s e (carried i d s)) e r deadline
+      (put-turned i place _ stays (other refl))
+      (put-turned i place _ stays (other refl))
+      (λ two one _. put-turned i place _ (prepares deadline formed two one (same-neighbour e r mine 2 two refl) (same-old e r mine 2 two refl)) (other refl))
+      (λ _ _. put-turned i place _ stores (other refl))
+      (put-turned i place _ stays (other refl))
+      (λ eleven three. put-turned i place _ (serves three) (releases i place eleven three (same-new e r mine 11 eleven refl refl refl) refl))
+      (λ none. put-turned i place _ (ended e r mine (actionOf (e .kind) (r .state)) (finals (e .kind) (r .state)) none) (other (last-other e r)))
+
+  -- A refusal leaves all records as they were.
+  refused-turned : (n : ℕ) → Turned s e (refused n s)
+  refused-turned n = record { last = refl; change = λ j h. stays; says = other refl }
+
+  about-turned : wellFormed e ≡ true → (found : Found) → find (about e) s ≡ found → Turned s e (aboutOne e found s)
+  about-turned formed Nothing _ = refused-turned 2
+  about-turned formed (At i) found =
+      let here = found-at (about e) (s .entries) 0 i blank found in
+      let place : here .0 ≡ i = omega (arith, here .1) in
+      decided-turned formed i (s .clock + s .overall) (found-place s sound (about e) i found) (rw place at (here .3))
+
+  -- A reset ends every record that it is about.
+  reset-turned : (eqb (e .kind) 7 || eqb (e .kind) 14) ≡ true → Turned s e (resetOf e s)
+  reset-turned kinds =
+      record {
+        last = refl;
+        change = λ j h.
+            rw (reset-at e s j)
+            (by-cases (about e (getD (s .entries) j blank))
+            (λ t. rw t (ends (reset-kind (λ k. k ≡ 2 → ⊥) (e .kind) (λ z. omega arith) (λ z. omega arith) kinds) (by-other refl)))
+            (λ t. rw t stays));
+        says = other (by-cases (eqb (e .kind) 7) (λ t. rw t) (λ t. rw t));
+      }
+
+  -- A start makes a record, if a place is free.
+  start-turn : wellFormed e ≡ true → e .kind ≡ 9 → (found : Found) → find isFree s ≡ found → Turn s e (startAt e found s)
+  start-turn formed nine Nothing _ = turns (refused-turned 4)
+  start-turn formed nine (At k) found = starts k found formed nine
+
+  -- So does a request, if besides it is whole and no repeat, and some bearer is admitted.
+  module _ (formed : wellFormed e ≡ true) (one : e .kind ≡ 1) where
+    failed-turn : (n : ℕ) → Turn s e (failure n e s)
+    failed-turn n = turns (record { last = refl; change = λ j h. stays; says = refuses n one refl })
+
+    admitted-turn : (bytes : List ℕ) (found : Found) → find isFree s ≡ found → Turn s e (admittedAt e bytes found s)
+    admitted-turn bytes Nothing _ = failed-turn 4
+    admitted-turn bytes (At k) found =
+        by-cases (eqb (admission bytes s .admitted) 0) (λ t. rw t (failed-turn 5)) (λ t. rw t (admits k found formed one (admission bytes s)))
+
+    repeat-turn : (bytes : List ℕ) (found : Found) → Turn s e (repeatOf e bytes found s)
+    repeat-turn bytes (At i) = turns (refused-turned 3)
+    repeat-turn bytes Nothing = admitted-turn bytes (find isFree s) refl
+
+    request-turn : (bearers : List ℕ) (room : ℕ) → Turn s e (requestOf e bearers room s)
+    request-turn bearers room =
+        by-cases (complete e bearers room) (λ t. rw t (repeat-turn (taken e bearers) (find (about e) s))) (λ t. rw t (turns (refused-turned 1)))
+
+-- A tick ends the soonest record, if one is due, and sets the clock, which is no matter here.
+tick-turned : (s : Station) → Sound s → (e : Record) → wellFormed e ≡ true → e .kind ≡ 15 → Turned s e (tickOf e s)
+tick-turned s sound e formed fifteen =
+    by-cases (ltb (e .time) (s .clock)) (λ t. rw t (refused-turned s sound e 8)) (λ t. rw t (at-time (soonest e s) refl))
+  where
+    late : Sound (at (e .time) s)
+    late = sound-at s sound (e .time) (rw fifteen at (time-within e formed))
+
+    at-time : (found : Found) → soonest e s ≡ found → Turned s e (tickAt e found (at (e .time) s))
+    at-time Nothing _ = record { last = refl; change = λ j h. stays; says = other refl }
+    at-time (At i) found =
+        let t = decided-turned (at (e .time) s) late e formed i 0 (due-place s sound e i found) (soonest-due e fifteen s i found .1) in
+        record { last = t .last; change = t .change; says = t .says }
+
+-- Every step does one of these.
+pub turn : (s : Station) → Sound s → (e : Record) (bearers : List ℕ) (room : ℕ) → Turn s e (stepOf s e bearers room)
+turn s sound e bearers room =
+    by-cases (wellFormed e)
+    (λ w. by-cases (eqb (e .kind) 1)
+    (λ t. rw (w, t) (request-turn s sound e w (eqb-true (e .kind) 1 t) bearers room))
+    (λ t. by-cases (eqb (e .kind) 9)
+    (λ u. rw (w, t, u) (start-turn s sound e w (eqb-true (e .kind) 9 u) (find isFree s) refl))
+    (λ u. by-cases (eqb (e .kind) 15)
+    (λ v. rw (w, t, u, v) (turns (tick-turned s sound e w (eqb-true (e .kind) 15 v))))
+    (λ v. by-cases (eqb (e .kind) 7 || eqb (e .kind) 14)
+    (λ x. rw (w, t, u, v, x) (turns (reset-turned s sound e x)))
+    (λ x. by-cases (eqb (e .kind) 8)
+    (λ y. rw (w, t, u, v, x, y) (turns (refused-turned s sound e 0)))
+    (λ y. rw (w, t, u, v, x, y) (turns (about-turned s sound e w (find (about e) s) refl))))))))
+    (λ w. rw w (turns (refused-turned s sound e 1)))
