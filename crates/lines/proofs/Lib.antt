@@ -2,4 +2,5 @@ pub mod Blocks
 pub mod Digits
 pub mod Going
 pub mod Turning
+pub mod Within
 pub mod Writing

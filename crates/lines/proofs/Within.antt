@@ -1,0 +1,58 @@
+-- A run stays within the block and the buffer, and its station is one that a fresh one reaches.
+use Prim.Native.Nat.{ℕ, zero, suc, _-_, _≤_}
+use mathlib.Core.Path.{_≡_, sym, subst}
+use mathlib.Core.Bool.{Bool, true}
+use mathlib.Core.List.{List, []}
+use borrow.Author.Tests.{leb-true}
+use native.Mathlib.Omega.{arith}
+use lib.Dec.{leb}
+use lib.ListN.{length, take, drop, length-append, length-take, length-drop}
+use Rattle.laws.proofs.Tests.{by-cases, both-true}
+use Rattle.records.specs.Record.{AreBytes}
+use Rattle.records.specs.Stream.{pieceAt}
+use Rattle.records.proofs.RoundTrip.{bytes-drop}
+use Rattle.table.specs.Reached.{Reached}
+use Rattle.lines.specs.declared.Progress.{Progress}
+use Rattle.lines.specs.declared.Run.{Run}
+use Rattle.lines.specs.Lines.{isWhole, answerTo, lineOf, Work, goesOn, onward, workOn, workOf, progress, leftIn}
+use Rattle.lines.proofs.Digits.{line-most}
+use Rattle.lines.proofs.Going.{within, still-reached, goes, stops}
+
+module _ (ended : Bool) (room : ℕ) (bytes : List ℕ) (known : AreBytes bytes) where
+  pub record Within (w : Work) : Type 0 where
+    pub reached : Reached (w .run .station)
+    pub taken : w .taken ≤ length bytes
+    pub written : length (w .text) ≤ room
+
+  one : (w : Work) → goesOn ended room bytes w ≡ true → Within w → Within (onward bytes w)
+  one w t h =
+      let rest = drop (w .taken) bytes in
+      let place = w .run .place in
+      let fits : leb 189 (room - length (w .text)) ≡ true = both-true (isWhole ended (length bytes - w .taken) (pieceAt rest 0)) _ t .1 in
+      let outcome = answerTo (w .run .station) rest (pieceAt rest 0) .outcome in
+      record {
+        reached = still-reached (w .run .station) rest (h .reached) (bytes-drop (w .taken) bytes known);
+        taken = omega (arith, within rest, length-drop (w .taken) bytes, h .taken);
+        written = omega (arith, length-append (w .text) (lineOf place outcome), line-most place outcome, leb-true 189 (room - length (w .text)) fits);
+      }
+
+  all : (most : ℕ) (w : Work) → Within w → Within (workOn most ended room bytes w)
+  unfolding workOn
+  all zero w h = h
+  all (suc most) w h =
+      by-cases (goesOn ended room bytes w)
+      (λ t. subst Within (sym (goes most ended room bytes w t)) (all most (onward bytes w) (one w t h)))
+      (λ t. subst Within (sym (stops (suc most) ended room bytes w t)) h)
+
+  pub work-within : (run : Run) → Reached (run .station) → Within (workOf ended room bytes run)
+  work-within run h = all (length bytes) (record { run = run; taken = 0; text = [] }) (record { reached = h; taken = omega arith; written = omega arith })
+
+-- The same of what a run answers.
+pub progress-within : (ended : Bool) (out bytes : List ℕ) → AreBytes bytes → (run : Run) → Reached (run .station) → (p : Progress) → p ≡ progress (workOf ended (length out) bytes run) → Reached (p .run .station) × (p .taken ≤ length bytes) × (p .written ≤ length out)
+progress-within ended out bytes known run h p e =
+    let w = work-within ended (length out) bytes known run h in
+    subst (λ (q : Progress). Reached (q .run .station) × (q .taken ≤ length bytes) × (q .written ≤ length out)) (sym e) (w .reached, w .taken, w .written)
+
+-- What is left of a block is no longer than it.
+pub left-within : (taken held : ℕ) (block : List ℕ) → length (leftIn taken held block) ≤ length block
+left-within taken held block = omega (arith, length-drop taken (take held block), length-take held block)
