@@ -1,18 +1,20 @@
 -- The admitted set, whichever QCIs are GBR classes: the IDs of those that fit at their turn.
-use Prim.Native.Nat.{ℕ, _+_, _≤_}
+use Prim.Native.Nat.{ℕ, suc, _+_, _≤_, _<_}
 use mathlib.Core.Path.{_≡_, refl, _∙_, sym, ap, subst}
-use mathlib.Core.Bool.{Bool, true, cond, _&&_}
+use mathlib.Core.Bool.{Bool, true, false, cond, _&&_}
 use mathlib.Core.List.{List, [], _∷_, _++_, map}
-use borrow.Author.Tests.{eq-eqb, ne-eqb, eqb-true, eqb-false, lt-ltb}
+use borrow.Author.Tests.{eq-eqb, ne-eqb, eqb-true, eqb-false, lt-ltb, le-ltb}
 use native.Mathlib.Nat.{zero-add}
 use native.Mathlib.Omega.{arith}
+use lib.Count.{ones}
 use lib.Dec.{ltb, eqb}
+use lib.ListN.{length}
 use Rattle.laws.proofs.Tests.{by-cases}
 use Rattle.bearers.specs.declared.Bearer.{Bearer}
 use Rattle.bearers.specs.Admission.{total, occurs, standing, hasTurn, turns, verdict, admitted, idsOf}
-use Rattle.bearers.specs.Sets.{member, among}
-use Rattle.bearers.proofs.Granted.{Formed, units, granted, granted-le, granted-total, zero-means, turn-once, fits, once}
-use Rattle.bearers.proofs.Membership.{same-members, member-setOf}
+use Rattle.bearers.specs.Sets.{member, among, setOf}
+use Rattle.bearers.proofs.Granted.{Formed, Distinct, units, granted, granted-le, granted-total, zero-means, turn-once, fits, once}
+use Rattle.bearers.proofs.Membership.{same-members, member-setOf, ones-add, ones-none}
 use Rattle.bearers.proofs.Sums.{Each, total-split, total-those, total-le, each-here}
 
 -- An ID is in the set of some bearers exactly if it is 0 to 15 and occurs.
@@ -28,6 +30,19 @@ among-occurs k (b ∷ bs) =
 
 pub member-ids : (k : ℕ) (bs : List Bearer) → member (idsOf bs) k ≡ (ltb k 16 && ltb 0 (occurs k bs))
 member-ids k bs = member-setOf (map (λ b. b .id) bs) k ∙ ap (λ (t : Bool). ltb k 16 && t) (among-occurs k bs)
+
+-- The number of ones in the set of some bearers' IDs is their number, where no two have one ID.
+pub ones-ids : (bs : List Bearer) → Each (λ b. b .id < 16) bs → Distinct bs → ones (idsOf bs) ≡ length bs
+unfolding setOf total
+ones-ids [] each distinct = ones-none
+ones-ids (b ∷ bs) each distinct =
+    let rest : Distinct bs = λ k. omega (arith, distinct k) in
+    let new : occurs (b .id) bs ≤ 0 = alone (distinct (b .id)) in
+    let none : member (idsOf bs) (b .id) ≡ false = member-ids (b .id) bs ∙ rw (lt-ltb (b .id) 16 (each .0)) (le-ltb 0 (occurs (b .id) bs) new) in
+    ones-add (idsOf bs) (b .id) (each .0) none ∙ ap suc (ones-ids bs (each .1) rest)
+  where
+    alone : once (b .id) b + occurs (b .id) bs ≤ 1 → occurs (b .id) bs ≤ 0
+    alone h = let one : 1 + occurs (b .id) bs ≤ 1 = rw (eq-eqb (b .id) (b .id) refl) at h in omega arith
 
 module _ (gbr : ℕ → Bool) (free : ℕ) (bs : List Bearer) (each : Each Formed bs) where
   -- The IDs of who got units are those of who has verdict 0.

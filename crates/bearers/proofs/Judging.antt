@@ -1,24 +1,27 @@
 -- What the code leaves is what admission says: the admitted set, and each verdict by it.
-use Prim.Native.Nat.{ℕ, _-_, _<_}
-use mathlib.Core.Path.{_≡_, _∙_, sym, ap, subst}
-use mathlib.Core.Bool.{true, not}
-use mathlib.Core.List.{List, [], _∷_, map}
+use Prim.Native.Nat.{ℕ, _-_, _≤_, _<_}
+use mathlib.Core.Path.{_≡_, _∙_, sym, ap, ap₂, subst}
+use mathlib.Core.Bool.{Bool, true, not}
+use mathlib.Core.List.{List, [], _∷_, _++_, map}
+use borrow.Author.Tests.{le-leb, lt-ltb}
 use native.Mathlib.Omega.{arith}
 use lib.Bits.{or-zero-l}
 use lib.Dec.{eqb}
-use lib.ListN.{getD, length-take}
-use lib.Seq.{getD-take}
+use lib.ListN.{length, getD, drop, replicate, length-take, length-append, length-replicate, getD-replicate, List·getD-append}
+use lib.Seq.{getD-take, length-take-le, drop-at}
 use Rattle.laws.proofs.Tests.{both-true}
 use Rattle.records.specs.declared.Record.{Record}
 use Rattle.bearers.specs.declared.Bearer.{Bearer}
 use Rattle.bearers.specs.declared.Survey.{Survey}
-use Rattle.bearers.specs.Admission.{total, those, hasTurn, release8, turnsFrom, turns, verdict, admitted, refused, idsOf}
+use Rattle.bearers.specs.Admission.{total, those, occurs, hasTurn, release8, turnsFrom, turns, verdict, admitted, refused, idsOf}
 use Rattle.bearers.specs.Bearer.{isBearer, bearerOf, allBearers}
-use Rattle.bearers.proofs.Listing.{formed}
-use Rattle.bearers.specs.Working.{Surveyed, firstsOf, clear, run, settledBy, refusedBy}
+use Rattle.bearers.specs.Working.{alone, Surveyed, firstsOf, clear, run, settledBy, refusedBy, written}
 use Rattle.bearers.proofs.Admitted.{granted-ids, verdict-member}
-use Rattle.bearers.proofs.Granted.{Formed, units, grants, granted, run-granted, granted-total}
-use Rattle.bearers.proofs.Sums.{Each, each-split, each-place, each-here, each-map, map-each, those-each}
+use Rattle.bearers.proofs.Firsts.{same-ids}
+use Rattle.bearers.proofs.Granted.{Formed, units, grants, granted, run-granted, granted-total, turn-once}
+use Rattle.bearers.proofs.Listing.{formed}
+use Rattle.bearers.proofs.Sums.{Each, each-split, each-place, each-at, each-here, each-map, map-each, those-each, those-wider}
+use Rattle.bearers.proofs.Writing.{written-all}
 
 -- Bearers out of bearers' records have IDs and priorities up to 15.
 pub each-formed : (rs : List Record) → allBearers rs ≡ true → Each Formed (map bearerOf rs)
@@ -31,8 +34,14 @@ each-formed (r ∷ rs) t =
 module _ (free : ℕ) (bs : List Bearer) (each : Each Formed bs) (s : Survey) (known : Surveyed bs s) where
   -- The scratch table has the turns of the request.
   pub turns-known : turnsFrom 15 1 (those (clear s) (firstsOf s)) ≡ turns release8 bs
-  turns-known = ap (turnsFrom 15 1) (those-each (clear s) (hasTurn release8 bs) (firstsOf s) first ∙ known .turns)
+  turns-known = ap (turnsFrom 15 1) (those-each (clear s) test (firstsOf s) first ∙ sym (of-only (firstsOf s)) ∙ ap (those test) (known .only) ∙ of-only bs)
     where
+      test : Bearer → Bool
+      test = hasTurn release8 bs
+
+      of-only : (xs : List Bearer) → those test (those (alone bs) xs) ≡ those test xs
+      of-only xs = those-wider test (alone bs) xs (λ b t. le-leb (occurs (b .id) bs) 1 (turn-once release8 bs b t .0))
+
       first : Each (λ b. clear s b ≡ hasTurn release8 bs b) (firstsOf s)
       first = each-place _ (firstsOf s) (λ j d h.
           let inside : j < s .len = omega (arith, length-take (s .len) (s .firsts)) in
@@ -47,12 +56,47 @@ module _ (free : ℕ) (bs : List Bearer) (each : Each Formed bs) (s : Survey) (k
       let formed : Formed b = each-here Formed before b later (subst (Each Formed) e each) in
       rw (known .counted (b .id) (formed .0)) (sym (verdict-member release8 free bs each before b later e)))
 
-  pub settled-verdicts : map (settledBy s (idsOf (admitted release8 free bs))) bs ≡ map (verdict release8 free bs) bs
-  settled-verdicts = map-each _ _ bs settled-each
+  -- A bearer whose ID occurs more than once has verdict 1.
+  settled-repeated : (set : ℕ) (b : Bearer) → b .id < 16 → 1 < occurs (b .id) bs → settledBy s set b ≡ 1
+  settled-repeated set b small more = rw (known .counted (b .id) small, lt-ltb 1 (occurs (b .id) bs) more)
 
-  pub settled-refused : refusedBy s (idsOf (admitted release8 free bs)) bs ≡ idsOf (refused release8 free bs)
+  -- So a buffer of ones has all verdicts once those of the first bearers are written.
+  pub settled-verdicts : (buffer : List ℕ) → length bs ≤ length buffer → written (settledBy s (idsOf (admitted release8 free bs))) (s .places) (firstsOf s) (replicate (length bs) 1 ++ drop (length bs) buffer) ≡ map (verdict release8 free bs) bs ++ drop (length bs) buffer
+  settled-verdicts buffer room =
+      written-all (settledBy s set) bs (s .places) (firstsOf s) (ones ++ rest) (omega (arith, length-append ones rest, as-many)) (omega (arith, long, known .tidy .few, known .tidy .places)) at others
+      ∙ ap₂ _++_ (map-each _ _ bs settled-each) (drop-at ones rest (length bs) as-many)
+    where
+      set : ℕ
+      set = idsOf (admitted release8 free bs)
+
+      ones : List ℕ
+      ones = replicate (length bs) 1
+
+      as-many : length ones ≡ length bs
+      as-many = length-replicate (length bs) 1
+
+      rest : List ℕ
+      rest = drop (length bs) buffer
+
+      long : length (firstsOf s) ≡ s .len
+      long = length-take-le (s .len) (s .firsts) (omega (arith, known .tidy .few, known .tidy .firsts))
+
+      at : (j : ℕ) (d : Bearer) → j < length (firstsOf s) → (getD (s .places) j 0 < length bs) × (getD (firstsOf s) j d ≡ getD bs (getD (s .places) j 0) d)
+      at j d h =
+          let first : j < s .len = omega (arith, long) in
+          (known .placed .inside j first, getD-take (s .len) (s .firsts) j d first ∙ known .placed .firsts j d first)
+
+      others : (i : ℕ) (d : Bearer) → i < length bs → ((j : ℕ) → j < length (firstsOf s) → getD (s .places) j 0 ≡ i → ⊥) → getD (ones ++ rest) i 0 ≡ settledBy s set (getD bs i d)
+      others i d h none =
+          List·getD-append ones rest 0 i (omega (arith, as-many))
+          ∙ getD-replicate (length bs) i 1 0 h
+          ∙ sym (settled-repeated set (getD bs i d) (each-at Formed bs each i d h .0) (known .placed .others i d h (λ j inner. none j (omega (arith, long)))))
+
+  -- And the IDs that are refused are those of refused first bearers.
+  pub settled-refused : refusedBy s (idsOf (admitted release8 free bs)) (firstsOf s) ≡ idsOf (refused release8 free bs)
   settled-refused =
-      ap idsOf
+      same-ids bs s known (λ b. not (eqb (settledBy s (idsOf (admitted release8 free bs)) b) 0)) (λ b small more. rw (settled-repeated (idsOf (admitted release8 free bs)) b small more))
+      ∙ ap idsOf
       (those-each (λ b. not (eqb (settledBy s (idsOf (admitted release8 free bs)) b) 0)) (λ b. not (eqb (verdict release8 free bs b) 0)) bs
       (each-map _ _ bs (λ b e. ap (λ (v : ℕ). not (eqb v 0)) e) settled-each))
 

@@ -1,10 +1,10 @@
 -- Laws of admission, whichever QCIs are GBR classes. `bs` are the bearers of a request in their order, `free` the free units.
-use Prim.Native.Nat.{ℕ, suc, _+_, _≤_, _<_}
-use mathlib.Core.Path.{_≡_, refl, _∙_, sym, ap}
+use Prim.Native.Nat.{ℕ, _+_, _≤_, _<_}
+use mathlib.Core.Path.{_≡_, refl, _∙_, sym}
 use mathlib.Core.Bool.{Bool, true, false, cond, not, _&&_, _||_}
-use mathlib.Core.List.{List, [], _∷_, _++_, map}
+use mathlib.Core.List.{List, _∷_, _++_, map}
 use mathlib.Core.Logic.{_↔_}
-use borrow.Author.Tests.{eq-eqb, eqb-false, le-leb, lt-leb, leb-true, leb-false, lt-ltb, le-ltb, ltb-true, ltb-false}
+use borrow.Author.Tests.{eqb-false, le-leb, lt-leb, leb-true, leb-false, lt-ltb, ltb-true, ltb-false}
 use native.Mathlib.Omega.{arith}
 use lib.Count.{ones}
 use lib.Dec.{ltb, eqb}
@@ -12,26 +12,13 @@ use lib.ListN.{length, length-map}
 use Rattle.laws.proofs.Tests.{by-cases, both-true}
 use Rattle.bearers.specs.declared.Bearer.{Bearer}
 use Rattle.bearers.specs.Admission.{total, those, occurs, standing, hasTurn, turns, freeAt, verdict, admitted, refused, idsOf}
-use Rattle.bearers.specs.Sets.{member, union, disjoint, setOf}
-use Rattle.bearers.proofs.Admitted.{member-ids, admitted-le, granted-ids, verdict-member}
-use Rattle.bearers.proofs.Granted.{Formed, Distinct, units, fits, once, granted, turn-once, no-turn, zero-turn, those-repeated, those-distinct}
-use Rattle.bearers.proofs.Membership.{same-members, member-union, disjoint-means, ones-add, ones-none}
+use Rattle.bearers.specs.Sets.{member, union, disjoint}
+use Rattle.bearers.proofs.Admitted.{member-ids, ones-ids, admitted-le, granted-ids, verdict-member}
+use Rattle.bearers.proofs.Granted.{Formed, units, fits, once, granted, turn-once, no-turn, zero-turn, those-repeated, those-distinct}
+use Rattle.bearers.proofs.Membership.{same-members, member-union, disjoint-means}
 use Rattle.bearers.proofs.Sorting.{sorted, turns-sorted}
 use Rattle.bearers.proofs.Sums.{Each, total-those, those-others, each-those, each-here, each-split, each-occurs}
 use Rattle.bearers.proofs.Without.{without-split, others, verdict-without}
-
--- The number of ones in the set of some bearers' IDs is their number, where no two have one ID.
-ones-ids : (bs : List Bearer) → Each Formed bs → Distinct bs → ones (idsOf bs) ≡ length bs
-unfolding setOf total
-ones-ids [] each distinct = ones-none
-ones-ids (b ∷ bs) each distinct =
-    let rest : Distinct bs = λ k. omega (arith, distinct k) in
-    let new : occurs (b .id) bs ≤ 0 = alone (distinct (b .id)) in
-    let none : member (idsOf bs) (b .id) ≡ false = member-ids (b .id) bs ∙ rw (lt-ltb (b .id) 16 (each .0 .0)) (le-ltb 0 (occurs (b .id) bs) new) in
-    ones-add (idsOf bs) (b .id) (each .0 .0) none ∙ ap suc (ones-ids bs (each .1) rest)
-  where
-    alone : once (b .id) b + occurs (b .id) bs ≤ 1 → occurs (b .id) bs ≤ 0
-    alone h = let one : 1 + occurs (b .id) bs ≤ 1 = rw (eq-eqb (b .id) (b .id) refl) at h in omega arith
 
 -- One of two numbers is above 0 exactly if their sum is.
 either : (t : Bool) (a b n : ℕ) → a + b ≡ n → (t && ltb 0 a || (t && ltb 0 b)) ≡ (t && ltb 0 n)
@@ -105,7 +92,7 @@ module _ (gbr : ℕ → Bool) (free : ℕ) (bs : List Bearer) where
   pub count-ones : Each Formed bs → ones (idsOf (admitted gbr free bs)) ≡ length (admitted gbr free bs)
   count-ones each =
       let accepted : Bearer → Bool = λ b. eqb (verdict gbr free bs b) 0 in
-      ones-ids (admitted gbr free bs) (each-those Formed Formed accepted bs (λ b formed t. formed) each) (those-distinct gbr bs accepted (zero-turn gbr free bs))
+      ones-ids (admitted gbr free bs) (each-those Formed _ accepted bs (λ b formed t. formed .0) each) (those-distinct gbr bs accepted (zero-turn gbr free bs))
 
   -- Verdict 4 is that of a bearer that has a turn, at which fewer units are free than it needs.
   pub verdict-four : (b : Bearer) → (verdict gbr free bs b ≡ 4) ↔ ((hasTurn gbr bs b ≡ true) × (freeAt (turns gbr bs) (b .id) free < b .units))

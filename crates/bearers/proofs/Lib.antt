@@ -1,10 +1,12 @@
 pub mod Admitted
+pub mod Firsts
 pub mod Granted
 pub mod Judging
 pub mod Laws
 pub mod Listing
 pub mod Looking
 pub mod Membership
+pub mod Placing
 pub mod Sorting
 pub mod Sums
 pub mod Turns

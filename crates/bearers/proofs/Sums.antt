@@ -115,10 +115,15 @@ each-split P bs holds = go [] bs refl
     go before [] e = tt
     go before (b ∷ left) e = (holds before b left e, go (before ++ b ∷ []) left (e ∙ sym (append-snoc before b left)))
 
--- What holds of each place holds of each bearer.
+-- What holds of each place holds of each bearer, and the other way.
 pub each-place : (P : Bearer → Type 0) (bs : List Bearer) → ((j : ℕ) (d : Bearer) → j < length bs → P (getD bs j d)) → Each P bs
 each-place P [] holds = tt
 each-place P (b ∷ bs) holds = (holds 0 b (omega arith), each-place P bs (λ j d h. holds (suc j) d (omega arith)))
+
+pub each-at : (P : Bearer → Type 0) (bs : List Bearer) → Each P bs → (i : ℕ) (d : Bearer) → i < length bs → P (getD bs i d)
+each-at P [] each i d h = absurd (omega arith)
+each-at P (b ∷ bs) each zero d h = each .0
+each-at P (b ∷ bs) each (suc i) d h = each-at P bs (each .1) i d (omega arith)
 
 -- What holds of each bearer holds of the one at which the list is split, and what follows from it holds of each.
 pub each-here : (P : Bearer → Type 0) (before : List Bearer) (b : Bearer) (later : List Bearer) → Each P (before ++ b ∷ later) → P b
@@ -138,6 +143,15 @@ pub those-each : (p q : Bearer → Bool) (bs : List Bearer) → Each (λ b. p b 
 unfolding those
 those-each p q [] same = refl
 those-each p q (b ∷ bs) same = rw (same .0, those-each p q bs (same .1))
+
+-- Those that pass a test are among those that pass a wider one.
+pub those-wider : (p q : Bearer → Bool) (bs : List Bearer) → ((b : Bearer) → p b ≡ true → q b ≡ true) → those p (those q bs) ≡ those p bs
+unfolding those
+those-wider p q [] wider = refl
+those-wider p q (b ∷ bs) wider =
+    by-cases (p b)
+    (λ t. rw (wider b t, t, those-wider p q bs wider))
+    (λ t. by-cases (q b) (λ u. rw (u, t, those-wider p q bs wider)) (λ u. rw (u, t, those-wider p q bs wider)))
 
 -- What follows for a bearer that passes a test holds of each of those that pass it.
 pub each-those : (P Q : Bearer → Type 0) (test : Bearer → Bool) (bs : List Bearer) → ((b : Bearer) → P b → test b ≡ true → Q b) → Each P bs → Each Q (those test bs)

@@ -1,0 +1,62 @@
+-- What the first bearers of their IDs tell of all bearers of a request.
+use Prim.Native.Nat.{ℕ, _≤_, _<_}
+use mathlib.Core.Path.{_≡_, _∙_, sym, ap}
+use mathlib.Core.Bool.{Bool, true, cond}
+use mathlib.Core.List.{List}
+use borrow.Author.Tests.{eqb-true, leb-false, lt-ltb, ltb-true, ltb-false}
+use native.Mathlib.Omega.{arith}
+use lib.Dec.{ltb, eqb}
+use Rattle.laws.proofs.Tests.{by-cases}
+use Rattle.bearers.specs.declared.Bearer.{Bearer}
+use Rattle.bearers.specs.declared.Survey.{Survey}
+use Rattle.bearers.specs.Admission.{total, those, occurs, idsOf}
+use Rattle.bearers.specs.Working.{alone, Surveyed, firstsOf}
+use Rattle.bearers.proofs.Admitted.{member-ids}
+use Rattle.bearers.proofs.Granted.{once}
+use Rattle.bearers.proofs.Membership.{same-members}
+use Rattle.bearers.proofs.Sums.{total-those, total-equal}
+
+-- A number that is 0 counts as much with a test as without.
+no-count : (test : Bool) (n : ℕ) → n ≡ 0 → cond test n 0 ≡ n
+no-count test n none = by-cases test (λ t. rw t) (λ t. rw t (sym none))
+
+module _ (bs : List Bearer) (s : Survey) (known : Surveyed bs s) where
+  -- What counts no bearer whose ID occurs more than once has the same sum over the first bearers as over all.
+  first-sum : (f : Bearer → ℕ) → ((b : Bearer) → 1 < occurs (b .id) bs → f b ≡ 0) → total f (firstsOf s) ≡ total f bs
+  first-sum f none = sym (of-only (firstsOf s)) ∙ ap (total f) (known .only) ∙ of-only bs
+    where
+      of-only : (xs : List Bearer) → total f (those (alone bs) xs) ≡ total f xs
+      of-only xs =
+          total-those f (alone bs) xs
+          ∙ total-equal (λ b. cond (alone bs b) (f b) 0) f xs
+          (λ b. by-cases (alone bs b) (λ t. rw t) (λ t. rw t (sym (none b (leb-false (occurs (b .id) bs) 1 t)))))
+
+  module _ (test : Bearer → Bool) (passes : (b : Bearer) → b .id < 16 → 1 < occurs (b .id) bs → test b ≡ true) where
+    -- Where an ID occurs more than once, each of its bearers passes the test.
+    all-pass : (k : ℕ) → k < 16 → 1 < occurs k bs → (xs : List Bearer) → occurs k (those test xs) ≡ occurs k xs
+    all-pass k small more xs = total-those (once k) test xs ∙ total-equal (λ b. cond (test b) (once k b) 0) (once k) xs same
+      where
+        same : (b : Bearer) → cond (test b) (once k b) 0 ≡ once k b
+        same b =
+            by-cases (eqb (b .id) k)
+            (λ t. let id : b .id ≡ k = eqb-true (b .id) k t in rw (passes b (omega arith) (rw id more)))
+            (λ t. no-count (test b) (once k b) (rw t))
+
+    picked : (k : ℕ) → k < 16 → ltb 0 (occurs k (those test (firstsOf s))) ≡ ltb 0 (occurs k (those test bs))
+    picked k small =
+        by-cases (ltb 1 (occurs k bs))
+        (λ t. let more : 1 < occurs k bs = ltb-true 1 (occurs k bs) t in
+        rw (all-pass k small more (firstsOf s), all-pass k small more bs, lt-ltb 0 (occurs k (firstsOf s)) (known .met k small (omega arith)), lt-ltb 0 (occurs k bs) (omega arith)))
+        (λ t. ap (ltb 0) (total-those (once k) test (firstsOf s) ∙ first-sum (λ b. cond (test b) (once k b) 0) (uncounted (ltb-false 1 (occurs k bs) t)) ∙ sym (total-those (once k) test bs)))
+      where
+        uncounted : occurs k bs ≤ 1 → (b : Bearer) → 1 < occurs (b .id) bs → cond (test b) (once k b) 0 ≡ 0
+        uncounted few b more =
+            by-cases (eqb (b .id) k)
+            (λ t. let id : b .id ≡ k = eqb-true (b .id) k t in let clash : 1 < occurs k bs = rw id at more in absurd (omega arith))
+            (λ t. no-count (test b) (once k b) (rw t) ∙ rw t)
+
+    -- A test that each bearer passes whose ID occurs more than once picks the same IDs from the first bearers as from all.
+    pub same-ids : idsOf (those test (firstsOf s)) ≡ idsOf (those test bs)
+    same-ids =
+        same-members _ _
+        (λ k. rw (member-ids k (those test (firstsOf s)), member-ids k (those test bs)) (by-cases (ltb k 16) (λ t. rw (t, picked k (ltb-true k 16 t))) (λ t. rw t)))
