@@ -1,0 +1,4 @@
+pub mod Lists
+pub mod Ring
+pub mod Directions
+pub mod Invariant
