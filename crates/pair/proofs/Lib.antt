@@ -2,3 +2,4 @@ pub mod Lists
 pub mod Ring
 pub mod Directions
 pub mod Invariant
+pub mod Loss
