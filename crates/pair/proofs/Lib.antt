@@ -3,3 +3,4 @@ pub mod Ring
 pub mod Directions
 pub mod Invariant
 pub mod Loss
+pub mod Coming
