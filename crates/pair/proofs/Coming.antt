@@ -1,10 +1,9 @@
 -- What a station takes from the other one, and what it puts under way to it.
 use Prim.Native.Nat.{ℕ, _≤_}
 use mathlib.Core.Path.{_≡_, refl, sym, ap, _∙_}
-use mathlib.Core.Bool.{true, false, _&&_, _||_, true≢false, false≢true}
-use mathlib.Core.List.{List, [], _∷_, _++_, append-nil}
-use mathlib.Core.Logic.{_⊎_, ⊎-elim}
-use mathlib.Core.Option.{Option, none, some}
+use mathlib.Core.Bool.{true, _&&_, true≢false, false≢true}
+use mathlib.Core.List.{List, _∷_, _++_, append-nil}
+use mathlib.Core.Option.{Option, some}
 use borrow.Author.Tests.{eqb-true, eq-eqb, ne-eqb, le-leb}
 use native.Mathlib.Omega.{arith}
 use lib.Dec.{leb, eqb}
@@ -12,8 +11,8 @@ use Rattle.laws.proofs.Tests.{by-cases, both-true}
 use Rattle.records.specs.declared.Record.{Record}
 use Rattle.table.specs.declared.Answer.{Answer}
 use Rattle.table.specs.Views.{sent}
-use Rattle.pair.specs.World.{Side, Envelope, took, tagOf, belongs, posted, Carries, request, plain, isFrom, Comes, own, take, All, nothing, more}
-use Rattle.pair.proofs.Lists.{Pairs, all-tail, all-append, pairs-tail, pairs-append}
+use Rattle.pair.specs.World.{Side, Envelope, took, tagOf, belongs, posted, Carries, request, plain, Comes, own, take, All, nothing, more}
+use Rattle.pair.proofs.Lists.{Pairs, all-head, all-tail, all-append, pairs-tail, pairs-append}
 use Rattle.pair.proofs.Loss.{Within}
 
 -- ---- what is taken
@@ -24,6 +23,10 @@ pub record Taken (p : ℕ) (e : Record) (queue : List Envelope) (taken : Option 
   pub was : queue ≡ head ∷ rest
   pub is : taken ≡ some head
   pub carried : Carries p (head .message) e
+
+-- What holds of all holds of the oldest.
+pub of-head : {P : Envelope → Type 0} {m : Envelope} {queue rest : List Envelope} → queue ≡ m ∷ rest → All P queue → P m
+of-head was all = all-head (rw was at all)
 
 module _ {p : ℕ} {e : Record} where
   -- A message keeps its kind, and a request its Old ID.
@@ -56,21 +59,21 @@ module _ {p : ℕ} {e : Record} where
 
 -- ---- what is put under way
 
-module _ (p : ℕ) (a : Answer) (tag : ℕ) (stamp : Side → ℕ) where
-  abbrev pub envelope : Envelope
-  envelope = record { message = sent a; tag = tag; stamp = stamp }
+abbrev pub envelope : Answer → ℕ → (Side → ℕ) → Envelope
+envelope a tag stamp = record { message = sent a; tag = tag; stamp = stamp }
 
+module _ (p : ℕ) (a : Answer) (tag : ℕ) (stamp : Side → ℕ) where
   addressed : (leb 1 (sent a .kind) && leb (sent a .kind) 8 && eqb (sent a .neighbour) p) ≡ true → sent a .neighbour ≡ p
   addressed t = eqb-true (sent a .neighbour) p (both-true (leb 1 (sent a .kind) && leb (sent a .kind) 8) (eqb (sent a .neighbour) p) t .1)
 
   -- At most one message is put behind the others, and it goes to the other station.
-  pub all-posted : {P : Envelope → Type 0} {xs : List Envelope} → All P xs → (sent a .neighbour ≡ p → P envelope) → All P (xs ++ posted p a tag stamp)
+  pub all-posted : {P : Envelope → Type 0} {xs : List Envelope} → All P xs → (sent a .neighbour ≡ p → P (envelope a tag stamp)) → All P (xs ++ posted p a tag stamp)
   all-posted {xs = xs} all fits =
       by-cases (leb 1 (sent a .kind) && leb (sent a .kind) 8 && eqb (sent a .neighbour) p)
       (λ t. rw t (all-append all (more (fits (addressed t)) nothing)))
       (λ t. rw (t, append-nil) all)
 
-  pub pairs-posted : {P : Envelope → Envelope → Type 0} {xs : List Envelope} → Pairs P xs → (sent a .neighbour ≡ p → All (λ x. P x envelope) xs)
+  pub pairs-posted : {P : Envelope → Envelope → Type 0} {xs : List Envelope} → Pairs P xs → (sent a .neighbour ≡ p → All (λ x. P x (envelope a tag stamp)) xs)
       → Pairs P (xs ++ posted p a tag stamp)
   pairs-posted {xs = xs} all fits =
       by-cases (leb 1 (sent a .kind) && leb (sent a .kind) 8 && eqb (sent a .neighbour) p)

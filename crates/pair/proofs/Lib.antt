@@ -4,3 +4,5 @@ pub mod Directions
 pub mod Invariant
 pub mod Loss
 pub mod Coming
+pub mod Targets
+pub mod TargetTurn
