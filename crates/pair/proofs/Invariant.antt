@@ -3,13 +3,13 @@
 use Prim.Native.Nat.{ℕ, _+_, _≤_, _<_}
 use mathlib.Core.Path.{_≡_}
 use mathlib.Core.Bool.{Bool, true, _||_}
-use mathlib.Core.List.{List, [], _∷_}
+use mathlib.Core.List.{[], _∷_}
 use mathlib.Core.Logic.{_⊎_, _↔_}
 use lib.Dec.{eqb}
-use Rattle.table.specs.Views.{times, ids, last, Outgoing, Prepared, Incoming, Held, someOut, out, held, isOtherEnding}
-use Rattle.pair.specs.World.{Side, Answered, Silent, Refused, Fixed, Handover, untold, Envelope, recordOf, All}
+use Rattle.table.specs.Views.{last, Outgoing, Prepared, Incoming, Held, someOut, out, held, isOtherEnding}
+use Rattle.pair.specs.World.{Side, Answered, Silent, Refused, Fixed, untold, Envelope, recordOf, All}
 use Rattle.pair.proofs.Lists.{Pairs}
-use Rattle.pair.proofs.Ring.{distance, ahead}
+use Rattle.pair.proofs.Ledger.{UsedOf, IssuedOf, LedgerOf}
 use Rattle.pair.proofs.Directions.{Direction}
 
 -- ---- short words
@@ -62,20 +62,15 @@ pub record Released (d : Direction) (m : Envelope) : Type 0 where
 -- ---- the clauses
 
 module _ (s : Side) (d : Direction) where
-  -- Numbers: a record's own ID was issued; the issue that last gave an own ID is one of those counted, and gave it; and since then at least
-  -- 4,033 issues less the steps that the search has left to it, and more by the records that it will pass.
+  -- numbers
   abbrev pub Used : Type 0
-  Used = (i : ℕ) → 1 ≤ times i (ids (d .source)) → 1 ≤ d .numbers .issueOf i
+  Used = UsedOf (d .source) (d .numbers)
 
   abbrev pub Issued : Type 0
-  Issued =
-      (i : ℕ) → 1 ≤ d .numbers .issueOf i
-      → (d .numbers .issueOf i ≤ d .numbers .issuedCount) × (d .numbers .numberOf (d .numbers .issueOf i) ≡ i) × (i < 4096)
+  Issued = IssuedOf (d .numbers)
 
   abbrev pub Ledger : Type 0
-  Ledger =
-      (i : ℕ) → 1 ≤ d .numbers .issueOf i
-      → d .numbers .issueOf i + 4033 + ahead (last (d .source)) i (ids (d .source)) ≤ d .numbers .issuedCount + distance (last (d .source)) i
+  Ledger = LedgerOf (d .source) (d .numbers)
 
   abbrev pub New : Type 0
   New = (h : ℕ) → d .numbers .issuedCount < h → d .handovers h ≡ untold

@@ -1,5 +1,6 @@
 pub mod Lists
 pub mod Ring
+pub mod Ledger
 pub mod Directions
 pub mod Invariant
 pub mod Loss

@@ -1,5 +1,4 @@
 -- What holds of all entries of a list, or of any two in order, holds when entries go, and when one that fits is put at the end.
-use mathlib.Core.Path.{_≡_}
 use mathlib.Core.List.{List, [], _∷_, _++_}
 use Rattle.pair.specs.World.{All, nothing, more}
 

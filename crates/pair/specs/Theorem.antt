@@ -7,10 +7,9 @@ use mathlib.Core.Logic.{_↔_}
 use mathlib.Core.Option.{some}
 use Rattle.records.specs.declared.Record.{Record}
 use Rattle.table.specs.declared.Answer.{Answer}
-use Rattle.table.specs.declared.Station.{Station}
 use Rattle.table.specs.Step.{stepOf}
-use Rattle.table.specs.Views.{Outgoing, NotOut, Prepared, Incoming, NotHeld, out, held, due, to, isOtherEnding}
-use Rattle.pair.specs.World.{Side, A, B, Handover, Fixed, World, Acts, Loses, Step, acts, loses, Run}
+use Rattle.table.specs.Views.{NotOut, Prepared, NotHeld, out, held, due, to, isOtherEnding}
+use Rattle.pair.specs.World.{Side, A, Handover, Fixed, World, Acts, Step, acts, loses, Run}
 
 -- Each handover that was asked for "has one ending at the source: moved if and only if the target saw the UE arrive and its release
 -- came while the source stood prepared"; if the UE arrived and the release did not so come, it is cancelled, overtime, returned or reset.
