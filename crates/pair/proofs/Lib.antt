@@ -3,3 +3,10 @@ pub mod Ring
 pub mod Ledger
 pub mod Directions
 pub mod Invariant
+pub mod Taking
+pub mod Posting
+pub mod SourceFacts
+pub mod SourceQueues
+pub mod SourceTables
+pub mod SourceHistory
+pub mod SourceTurn
