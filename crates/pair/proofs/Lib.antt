@@ -10,3 +10,4 @@ pub mod SourceQueues
 pub mod SourceTables
 pub mod SourceHistory
 pub mod SourceTurn
+pub mod Loss
