@@ -11,3 +11,4 @@ pub mod SourceTables
 pub mod SourceHistory
 pub mod SourceTurn
 pub mod Loss
+pub mod Beginning
