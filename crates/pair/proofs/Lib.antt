@@ -3,7 +3,14 @@ pub mod Ring
 pub mod Ledger
 pub mod Directions
 pub mod Invariant
+pub mod Taking
+pub mod Posting
+pub mod SourceFacts
+pub mod SourceQueues
+pub mod SourceTables
+pub mod SourceHistory
+pub mod SourceTurn
 pub mod Loss
-pub mod Coming
+pub mod Beginning
 pub mod Targets
 pub mod TargetTurn

@@ -16,7 +16,11 @@ module _ {T : Type 0} where
   pub all-tail : {P : T → Type 0} {x : T} {xs : List T} → All P (x ∷ xs) → All P xs
   all-tail (more p ps) = ps
 
-  -- One follows from another.
+  -- What always holds; and one follows from another.
+  pub all-any : {P : T → Type 0} → ((x : T) → P x) → (xs : List T) → All P xs
+  all-any f [] = nothing
+  all-any f (x ∷ xs) = more (f x) (all-any f xs)
+
   pub all-map : {P Q : T → Type 0} {xs : List T} → ((x : T) → P x → Q x) → All P xs → All Q xs
   all-map f nothing = nothing
   all-map f (more {x = x} p ps) = more (f x p) (all-map f ps)

@@ -1,66 +1,64 @@
--- A message is lost: every clause of the invariant speaks of all messages under way or of any two in order, so the rest keep it.
-use mathlib.Core.Path.{_≡_}
+-- A message that is lost leaves the invariant: each clause speaks of all messages, or of any two in order.
 use mathlib.Core.List.{List, _∷_, _++_}
-use Rattle.pair.specs.World.{Side, Envelope, All}
+use Rattle.pair.specs.World.{Side, Envelope, Answered, Fixed, Refused, All}
 use Rattle.pair.proofs.Lists.{Pairs, all-map, all-without, pairs-without}
 use Rattle.pair.proofs.Directions.{Direction, withQueues}
-use Rattle.pair.proofs.Invariant.{Invariant}
+use Rattle.pair.proofs.Invariant.{newOf, setOf, Requested, Replied, Released, Invariant}
 
--- What holds of all entries of one list, or of any two in order, holds of another.
-pub record Within (fewer more : List Envelope) : Type 1 where
-  pub each : (P : Envelope → Type 0) → All P more → All P fewer
-  pub any-two : (P : Envelope → Envelope → Type 0) → Pairs P more → Pairs P fewer
+-- One list is another, or lacks an entry of it.
+pub data Fewer {T : Type 0} : List T → List T → Type 0 where
+  same : {xs : List T} → Fewer xs xs
+  without : (older : List T) (lost : T) (younger : List T) → Fewer (older ++ younger) (older ++ (lost ∷ younger))
 
-all-within : (xs : List Envelope) → Within xs xs
-all-within xs = record { each = λ P all. all; any-two = λ P pairs. pairs }
+pub all-fewer : {T : Type 0} {P : T → Type 0} (xs ys : List T) → Fewer xs ys → All P ys → All P xs
+all-fewer xs ys same ps = ps
+all-fewer xs ys (without older lost younger) ps = all-without older lost younger ps
 
-without-within : (older : List Envelope) (lost : Envelope) (younger : List Envelope) {xs : List Envelope} → xs ≡ older ++ (lost ∷ younger) → Within (older ++ younger) xs
-without-within older lost younger was =
-    record {
-      each = λ P all. all-without older lost younger (rw was at all);
-      any-two = λ P pairs. pairs-without older lost younger (rw was at pairs);
-    }
+pairs-fewer : {T : Type 0} {P : T → T → Type 0} (xs ys : List T) → Fewer xs ys → Pairs P ys → Pairs P xs
+pairs-fewer xs ys same ps = ps
+pairs-fewer xs ys (without older lost younger) ps = pairs-without older lost younger ps
 
-module _ (s : Side) (d : Direction) where
-  -- What is said of a message under way says nothing of the others.
-  fewer : {requests answers : List Envelope} → Within requests (d .requests) → Within answers (d .answers) → Invariant s d → Invariant s (withQueues requests answers d)
-  fewer requests answers i =
+module _ (s : Side) (d : Direction) (requests answers : List Envelope) (fewer-requests : Fewer requests (d .requests)) (fewer-answers : Fewer answers (d .answers)) where
+  abbrev after : Direction
+  after = withQueues requests answers d
+
+  requested : (m : Envelope) → Requested s d m → Requested s after m
+  requested m was = record { named = was .named; latest = was .latest; stamped = was .stamped; unanswered = was .unanswered }
+
+  replied : (m : Envelope) (answer : Answered) → Replied s d m answer → Replied s after m answer
+  replied m answer was = record { named = was .named; latest = was .latest; stamped = was .stamped; answered = was .answered }
+
+  released : (m : Envelope) → Released d m → Released after m
+  released m was = record { numbered = was .numbered; arrived = was .arrived; set = was .set; answered = was .answered }
+
+  in-requests : {P : Envelope → Type 0} → All P (d .requests) → All P requests
+  in-requests = all-fewer requests (d .requests) fewer-requests
+
+  in-answers : {P : Envelope → Type 0} → All P (d .answers) → All P answers
+  in-answers = all-fewer answers (d .answers) fewer-answers
+
+  pub loss : Invariant s d → Invariant s (withQueues requests answers d)
+  loss inv =
       record {
-        used = i .used;
-        issued = i .issued;
-        ledger = i .ledger;
-        new = i .new;
-        requests = all-map
-            (λ m of one. let r = of one in record { named = r .named; latest = r .latest; stamped = r .stamped; unanswered = r .unanswered })
-            (requests .each _ (i .requests));
-        once = requests .any-two _ (i .once);
-        acknowledges = all-map
-            (λ m of two. let r = of two in record { named = r .named; latest = r .latest; stamped = r .stamped; answered = r .answered })
-            (answers .each _ (i .acknowledges));
-        failures = all-map
-            (λ m of three. let r = of three in record { named = r .named; latest = r .latest; stamped = r .stamped; answered = r .answered })
-            (answers .each _ (i .failures));
-        releases = all-map
-            (λ m of five. let r = of five in record { numbered = r .numbered; arrived = r .arrived; set = r .set; answered = r .answered })
-            (answers .each _ (i .releases));
-        held = i .held;
-        prepared = i .prepared;
-        order = answers .any-two _ (i .order);
-        release-prepared = answers .each _ (i .release-prepared);
-        held-acknowledge = answers .each _ (i .held-acknowledge);
-        held-prepared = i .held-prepared;
-        live = i .live;
-        ended = i .ended;
-        moved = i .moved;
-        came = i .came;
-        failed = i .failed;
-        arrived = i .arrived;
+        used = inv .used;
+        issued = inv .issued;
+        ledger = inv .ledger;
+        new = inv .new;
+        requests = all-map (λ m was kind. requested m (was kind)) (in-requests (inv .requests));
+        once = pairs-fewer requests (d .requests) fewer-requests (inv .once);
+        acknowledges = all-map (λ m was kind. replied m (Fixed (newOf m) (setOf m)) (was kind)) (in-answers (inv .acknowledges));
+        failures = all-map (λ m was kind. replied m Refused (was kind)) (in-answers (inv .failures));
+        releases = all-map (λ m was kind. released m (was kind)) (in-answers (inv .releases));
+        held = inv .held;
+        prepared = inv .prepared;
+        order = pairs-fewer answers (d .answers) fewer-answers (inv .order);
+        release-prepared = in-answers (inv .release-prepared);
+        held-acknowledge = in-answers (inv .held-acknowledge);
+        held-prepared = inv .held-prepared;
+        live = inv .live;
+        ended = inv .ended;
+        moved = inv .moved;
+        came = inv .came;
+        failed = inv .failed;
+        arrived = inv .arrived;
       }
-
-  pub loss-of-request : (older : List Envelope) (lost : Envelope) (younger : List Envelope) → d .requests ≡ older ++ (lost ∷ younger)
-      → Invariant s d → Invariant s (withQueues (older ++ younger) (d .answers) d)
-  loss-of-request older lost younger was = fewer (without-within older lost younger was) (all-within (d .answers))
-
-  pub loss-of-answer : (older : List Envelope) (lost : Envelope) (younger : List Envelope) → d .answers ≡ older ++ (lost ∷ younger)
-      → Invariant s d → Invariant s (withQueues (d .requests) (older ++ younger) d)
-  loss-of-answer older lost younger was = fewer (all-within (d .requests)) (without-within older lost younger was)

@@ -6,7 +6,7 @@ use mathlib.Core.Bool.{true, false, true≢false}
 use mathlib.Core.List.{List}
 use mathlib.Core.Logic.{⊎-elim}
 use mathlib.Core.Option.{Option}
-use borrow.Author.Tests.{eqb-true, eqb-false, eq-eqb}
+use borrow.Author.Tests.{eqb-true, eqb-false, eq-eqb, ne-eqb}
 use native.Mathlib.Omega.{arith}
 use lib.Dec.{eqb}
 use Rattle.laws.proofs.Tests.{by-cases}
@@ -15,8 +15,8 @@ use Rattle.table.proofs.Interface.{to-means}
 use Rattle.table.specs.declared.Answer.{Answer}
 use Rattle.table.specs.declared.Station.{Station}
 use Rattle.table.specs.Views.{Held, held, sent, to, Shrinks, Grants, Denies, Arrives, Target, grants, denies, arrives, holds}
-use Rattle.pair.specs.World.{Side, Answered, Silent, Envelope, took, tagOf, Recent}
-use Rattle.pair.proofs.Coming.{of-head, carried-kind, carried-old, taken-from, taken-of}
+use Rattle.pair.specs.World.{Side, Answered, Silent, Envelope, took, tagOf, belongs, Recent}
+use Rattle.pair.proofs.Taking.{carries-request, taken-of, took-of, first-of}
 use Rattle.pair.proofs.Directions.{Direction, targetAfter, TargetStep}
 use Rattle.pair.proofs.Invariant.{kindOf, oldOf, reserved, Requested, Invariant}
 
@@ -47,6 +47,19 @@ module _ {p : ℕ} {y : Station} {e : Record} {a : Answer} where
   shrinking (arrives x) t = x .shrinks
   shrinking (holds x) t = x .shrinks
 
+-- ---- to which handover an answer or a release belongs
+
+module _ (issue : ℕ) (taken : Option Envelope) (fixed : ℕ → ℕ) (m : Record) where
+  pub acknowledge-belongs : m .kind ≡ 2 → belongs issue taken fixed m ≡ tagOf taken
+  acknowledge-belongs two = rw (ne-eqb (m .kind) 1 (λ z. omega arith), eq-eqb (m .kind) 2 two)
+
+  pub failure-belongs : m .kind ≡ 3 → belongs issue taken fixed m ≡ tagOf taken
+  failure-belongs three = rw (ne-eqb (m .kind) 1 (λ z. omega arith), ne-eqb (m .kind) 2 (λ z. omega arith), eq-eqb (m .kind) 3 three)
+
+  pub release-belongs : m .kind ≡ 5 → belongs issue taken fixed m ≡ fixed (m .new .0)
+  release-belongs five =
+      rw (ne-eqb (m .kind) 1 (λ z. omega arith), ne-eqb (m .kind) 2 (λ z. omega arith), ne-eqb (m .kind) 3 (λ z. omega arith), eq-eqb (m .kind) 5 five)
+
 -- ---- a request, and a record held after the turn
 
 -- A request of a handover with this Old ID, as it is taken.
@@ -63,16 +76,16 @@ pub data HeldAfter (d : Direction) (a : Answer) (h h' n old set : ℕ) : Type 0 
   kept : reserved d n ≡ Held old set → h' ≡ d .fixedFor n → HeldAfter d a h h' n old set
   made : to 2 (d .back) a ≡ true → n ≡ sent a .new .0 → old ≡ sent a .old .0 → set ≡ sent a .first → h' ≡ h → HeldAfter d a h h' n old set
 
-module _ (s : Side) (d : Direction) (e : Record) (a : Answer) (taken : Option Envelope) (rest : List Envelope) (stamp : Side → ℕ) (issue : ℕ)
+module _ {s : Side} {d : Direction} {e : Record} {a : Answer} {taken : Option Envelope} {rest : List Envelope} {stamp : Side → ℕ} {issue : ℕ}
     (x : TargetStep s d e a taken rest stamp issue) (i : Invariant s d) where
   -- A request that was taken.
   pub request-of : (h : ℕ) → took 1 h taken ≡ true → RequestOf d (e .old .0) h
   request-of h t =
-      let found = taken-of 1 h (x .comes) t in
-      let head = found .0 .head in
-      let requested : Requested s d head = of-head (found .0 .was) (i .requests) (found .1) in
-      let recent : Recent s (d .numbers) head = of-head (found .0 .was) (x .requests-recent) in
-      let old : e .old .0 ≡ oldOf head = carried-old (found .0 .carried) (found .1) in
+      let found = took-of 1 h (d .back) e (d .requests) taken rest (x .comes) t in
+      let head = found .0 .first in
+      let requested : Requested s d head = first-of (λ m. kindOf m ≡ 1 → Requested s d m) (found .0) (i .requests) (found .1) in
+      let recent : Recent s (d .numbers) head = first-of (Recent s (d .numbers)) (found .0) (x .requests-recent) in
+      let old : e .old .0 ≡ oldOf head = carries-request (d .back) (head .message) e (found .0 .carries) (found .1) in
       let tag : head .tag ≡ h = found .2 in
       let latest : d .numbers .issueOf (e .old .0) ≡ h = cc in
       let issued = i .issued (e .old .0) (rw latest (rw tag at (requested .named))) in
@@ -88,8 +101,8 @@ module _ (s : Side) (d : Direction) (e : Record) (a : Answer) (taken : Option En
   -- An event that is a request from the source was taken, and is that of the handover of the message.
   pub request-taken : e .kind ≡ 1 → e .neighbour ≡ d .back → took 1 (tagOf taken) taken ≡ true
   request-taken one from =
-      let t = taken-from (x .comes) (omega arith) (omega arith) from in
-      rw (t .is, eq-eqb (kindOf (t .head)) 1 (sym (carried-kind (t .carried)) ∙ one), eq-eqb (t .head .tag) (t .head .tag) refl)
+      let t = taken-of 1 (d .back) e (d .requests) taken rest (omega arith) (omega arith) one from (x .comes) in
+      rw (t .is, eq-eqb (kindOf (t .first)) 1 (t .kind ∙ one), eq-eqb (t .first .tag) (t .first .tag) refl)
 
   pub held-after : (n old set : ℕ) → held (a .station) (d .back) n ≡ Held old set
       → HeldAfter d a (tagOf taken) (targetAfter s d e a taken rest stamp issue .fixedFor n) n old set

@@ -146,12 +146,12 @@ posted p a tag stamp =
 
 -- ---- steps; `peer s` is "the number under which station s knows the other one"
 
+abbrev pub issuedAfter : World → Side → Answer → Side → Numbers
+issuedAfter w s a = put s (issuing (issued a) (w .numbers s)) (w .numbers)
+
 module _ (peer : Side → ℕ) where
   -- One station answers an event, with the message that it took, if it did, and what is left under way to it. It is the source of
   -- its own handovers and the target of the other's.
-  abbrev pub issuedAfter : World → Side → Answer → Side → Numbers
-  issuedAfter w s a = put s (issuing (issued a) (w .numbers s)) (w .numbers)
-
   abbrev pub act : World → Side → Record → Answer → Option Envelope → List Envelope → World
   act w s e a taken rest =
       record {
@@ -201,6 +201,24 @@ Recent s n m = n .issuedCount < m .stamp s + 2000
 abbrev pub Bounded : World → Type 0
 Bounded w = (r s : Side) → All (Recent s (w .numbers s)) (w .queue r)
 
+-- "Two fresh stations", of any settings: nothing is under way, and there is no history.
+abbrev pub start : (Side → Station) → World
+start fresh =
+    record {
+      station = fresh;
+      queue = λ s. [];
+      numbers = λ s. record { issuedCount = 0; issueOf = λ i. 0; numberOf = λ h. 0 };
+      fixedFor = λ s n. 0;
+      handovers = λ s h. untold;
+    }
+
+pub record Fresh (x : Station) : Type 0 where
+  pub capacity : ℕ
+  pub prep : ℕ
+  pub overall : ℕ
+  pub guard : ℕ
+  pub born : x ≡ bornOf capacity prep overall guard
+
 module _ (peer : Side → ℕ) where
   -- A station takes an event, its own or the oldest message to it.
   pub record Acts (w : World) (s : Side) (e : Record) (a : Answer) (w' : World) : Type 0 where
@@ -225,24 +243,6 @@ module _ (peer : Side → ℕ) where
   pub data Step (w w' : World) : Type 0 where
     acts : (s : Side) (e : Record) (a : Answer) → Acts w s e a w' → Step w w'
     loses : (s : Side) → Loses w s w' → Step w w'
-
-  -- "Two fresh stations", of any settings: nothing is under way, and there is no history.
-  abbrev pub start : (Side → Station) → World
-  start fresh =
-      record {
-        station = fresh;
-        queue = λ s. [];
-        numbers = λ s. record { issuedCount = 0; issueOf = λ i. 0; numberOf = λ h. 0 };
-        fixedFor = λ s n. 0;
-        handovers = λ s h. untold;
-      }
-
-  pub record Fresh (x : Station) : Type 0 where
-    pub capacity : ℕ
-    pub prep : ℕ
-    pub overall : ℕ
-    pub guard : ℕ
-    pub born : x ≡ bornOf capacity prep overall guard
 
   -- A world that two fresh stations reached.
   pub data Run : World → Type 0 where
