@@ -14,3 +14,4 @@ pub mod Loss
 pub mod Beginning
 pub mod Targets
 pub mod TargetTurn
+pub mod Reaching
