@@ -15,3 +15,4 @@ pub mod Beginning
 pub mod Targets
 pub mod TargetTurn
 pub mod Reaching
+pub mod Rest
