@@ -5,7 +5,7 @@ use mathlib.Core.Path.{_≡_, refl}
 use mathlib.Core.List.{List, _∷_, _++_}
 use mathlib.Core.Option.{Option}
 use Rattle.records.specs.declared.Record.{Record}
-use Rattle.table.proofs.Interface.{fresh, laws, step-laws}
+use Rattle.table.proofs.Interface.{laws, step-laws}
 use Rattle.table.specs.declared.Answer.{Answer}
 use Rattle.table.specs.declared.Station.{Station}
 use Rattle.table.specs.Reached.{Reached, stepped}
@@ -19,6 +19,7 @@ use Rattle.pair.proofs.SourceTurn.{source-turn}
 use Rattle.pair.proofs.TargetTurn.{target-turn}
 
 module _ (peer : Side → ℕ) where
+  -- Whatever the history says, each station is one that a fresh one reached: its steps look at nothing else.
   pub record Good (w : World) : Type 0 where
     pub reached : (s : Side) → Reached (w .station s)
     pub bounded : Bounded w
@@ -115,5 +116,5 @@ module _ (peer : Side → ℕ) where
   stepping good (loses s x) = lost s good x
 
   pub reached : {w : World} → Run peer w → Good w
-  reached (begin fresh new) = first fresh new
+  reached (begin stations new) = first stations new
   reached (next run step) = stepping (reached run) step
