@@ -1,0 +1,205 @@
+-- The theorem of two stations, from the invariant.
+use Prim.Native.Nat.{ℕ, _≤_}
+use mathlib.Core.Path.{_≡_, refl, sym, ap, _∙_}
+use mathlib.Core.Bool.{true, false, true≢false, false≢true}
+use mathlib.Core.List.{List, [], _∷_}
+use mathlib.Core.Logic.{inl, inr, ⊎-elim}
+use mathlib.Core.Option.{Option, some}
+use borrow.Author.Tests.{eqb-true, eqb-false, ne-eqb}
+use native.Mathlib.Omega.{arith}
+use lib.Dec.{eqb}
+use Rattle.laws.proofs.Tests.{by-cases}
+use Rattle.records.specs.declared.Record.{Record}
+use Rattle.table.proofs.Interface.{laws, step-laws}
+use Rattle.table.specs.declared.Answer.{Answer}
+use Rattle.table.specs.declared.Station.{Station}
+use Rattle.table.specs.Views.{Outgoing, NotOut, Preparing, Prepared, Incoming, NotHeld, Held, someOut, someHeld, out, held, due, sent, to, isOtherEnding, Source, asks, readies, keeps, StepLaws}
+use Rattle.pair.specs.Theorem.{EndsOnce, AsFixed, AtRest, Past, starts, Still, here, onward, Nine, Demand}
+use Rattle.pair.specs.World.{Side, A, B, other, Envelope, World, recordOf, act, Comes, All, nothing, Acts, Step, acts, loses}
+use Rattle.pair.proofs.Posting.{isPosted, posted-to, all-posted}
+use Rattle.pair.proofs.Taking.{taken-of, first-of, left}
+use Rattle.pair.proofs.Loss.{all-fewer}
+use Rattle.pair.proofs.Directions.{Direction, direction}
+use Rattle.pair.proofs.Invariant.{kindOf, outgoing, isEnding, Invariant}
+use Rattle.pair.proofs.Reaching.{Good, step-of, acted, remain, stepping, reached}
+use Rattle.pair.proofs.Targets.{granting}
+
+-- A tick is no start.
+tick-starts-none : {p : ℕ} {x : Station} {e : Record} {a : Answer} → Source p x e a → e .kind ≡ 15 → to 1 p a ≡ false
+tick-starts-none (asks x) tick = let nine = x .kind in absurd (omega arith)
+tick-starts-none (readies x) tick = x .silent
+tick-starts-none (keeps x) tick = x .silent
+
+-- ---- one ending
+
+no-out : (v : Outgoing) → (someOut v ≡ true → ⊥) → v ≡ NotOut
+no-out NotOut none = refl
+no-out Preparing none = absurd (none refl)
+no-out (Prepared other admitted) none = absurd (none refl)
+
+no-held : (v : Incoming) → (someHeld v ≡ true → ⊥) → v ≡ NotHeld
+no-held NotHeld none = refl
+no-held (Held other admitted) none = absurd (none refl)
+
+-- An ending is failed, moved, or one of the four others.
+other-ending : (z : ℕ) → isEnding z ≡ true → (z ≡ 1 → ⊥) → (z ≡ 3 → ⊥) → isOtherEnding z ≡ true
+other-ending z is not-one not-three = rw (ne-eqb z 1 not-one, ne-eqb z 3 not-three) at is
+
+module _ (s : Side) (d : Direction) (i : Invariant s d) (none : (j : ℕ) → outgoing d j ≡ NotOut) where
+  -- The record of a handover that was asked for is not there: so the handover has ended, once.
+  ends-once : (h : ℕ) → d .handovers h .asked ≡ true → EndsOnce (d .handovers h)
+  ends-once h asked = ⊎-elim (λ live. absurd (false≢true (rw gone at live))) once (i .ended h asked)
+    where
+      gone : recordOf (d .numbers) (outgoing d) h ≡ NotOut
+      gone = by-cases (eqb (d .numbers .issueOf (d .numbers .numberOf h)) h) (λ t. rw t (none (d .numbers .numberOf h))) (λ t. rw t)
+
+      once : (z : ℕ) × (d .handovers h .endings ≡ z ∷ []) × (isEnding z ≡ true) → EndsOnce (d .handovers h)
+      once (z, one, is) =
+          record {
+            end = z;
+            one = one;
+            moved = (
+              λ three. let came = i .moved h .0 (one ∙ ap (λ y. y ∷ []) three) in (i .came h came, came),
+              λ both. let moved = i .moved h .1 (both .1) in cc,
+            );
+            else = λ arrived not-came.
+                other-ending z is
+                (λ first.
+                let failed = i .failed h (one ∙ ap (λ y. y ∷ []) first) in
+                let fixed = i .arrived h arrived .2 in
+                let bad : _≡_ {A = ℕ} 0 1 = cc in omega arith)
+                (λ third. true≢false (sym (i .moved h .0 (one ∙ ap (λ y. y ∷ []) third)) ∙ not-came));
+          }
+
+module _ (peer : Side → ℕ) where
+  -- "A prepared handover carries the number and set the target fixed for that very request": it is that of the issue that gave its own ID.
+  as-fixed : {w : World} → Good peer w → (s : Side) → AsFixed peer w s
+  as-fixed {w} good s i number set ready =
+      let inv = good .invariant s in
+      let there : someOut (out (w .station s) (peer s) i) ≡ true = rw ready in
+      let issued = inv .issued i (inv .used i (laws (good .reached s) .view (peer s) i (inl there))) in
+      (w .numbers s .issueOf i, issued .1, refl, inv .live i there .0, inv .prepared i number set ready)
+
+  -- Where no record of the other station has a deadline there is none: every one has.
+  at-rest : {w : World} → Good peer w → (s : Side) → ((i d : ℕ) → due (w .station s) (peer s) i ≡ some d → ⊥) → AtRest peer w s
+  at-rest {w} good s never =
+      let timed = laws (good .reached s) .timed in
+      let no-outgoing : (i : ℕ) → out (w .station s) (peer s) i ≡ NotOut =
+      λ i. no-out (out (w .station s) (peer s) i) (λ there. let timer = timed (peer s) i (inl there) in never i (timer .0) (timer .1)) in
+      record {
+        no-reservation = λ i. no-held (held (w .station s) (peer s) i) (λ there. let timer = timed (peer s) i (inr there) in never i (timer .0) (timer .1));
+        no-outgoing = no-outgoing;
+        ended = ends-once s (direction peer w s) (good .invariant s) no-outgoing;
+      }
+
+  -- ---- steps in which nothing starts
+
+  -- no request (1) and no acknowledge (2) is under way
+  abbrev Calm : World → Type 0
+  Calm w = (s : Side) → All (λ m. 1 ≤ kindOf m → kindOf m ≤ 2 → ⊥) (w .queue s)
+
+  -- After such steps that is still so, and no record of the other station has got a deadline.
+  record Calmly (v w : World) : Type 0 where
+    calm : Calm w
+    due-before : (s : Side) (i d : ℕ) → due (w .station s) (peer s) i ≡ some d → due (v .station s) (peer s) i ≡ some d
+
+  module _ (w : World) (calm : Calm w) (s : Side) (e : Record) (a : Answer) (taken : Option Envelope) (rest : List Envelope)
+      (step : StepLaws (w .station s) e a) (comes : Comes (peer s) e (w .queue (other s)) taken rest) (no-request : to 1 (peer s) a ≡ false) where
+    -- An event from the other station was under way, so it is no request and no acknowledge; and none is sent.
+    none-comes : (k : ℕ) → 1 ≤ k → k ≤ 2 → e .kind ≡ k → e .neighbour ≡ peer s → ⊥
+    none-comes k low high kind from =
+        let t = taken-of k (peer s) e (w .queue (other s)) taken rest low (omega arith) kind from comes in
+        let same = t .kind in
+        first-of (λ m. 1 ≤ kindOf m → kindOf m ≤ 2 → ⊥) t (calm (other s)) (omega arith) (omega arith)
+
+    no-acknowledge : to 2 (peer s) a ≡ false
+    no-acknowledge =
+        by-cases (to 2 (peer s) a)
+        (λ t. let g = granting (step .target (peer s)) t in absurd (none-comes 1 (omega arith) (omega arith) (g .kind) (g .neighbour)))
+        (λ t. t)
+
+    none-sent : isPosted (peer s) a ≡ true → 1 ≤ sent a .kind → sent a .kind ≤ 2 → ⊥
+    none-sent t low high =
+        by-cases (eqb (sent a .kind) 1)
+        (λ u. true≢false (sym (posted-to (peer s) a 1 t (eqb-true (sent a .kind) 1 u)) ∙ no-request))
+        (λ u. true≢false (sym (posted-to (peer s) a 2 t (omega (arith, eqb-false (sent a .kind) 1 u))) ∙ no-acknowledge))
+
+    acted-due : (i d : ℕ) → due (a .station) (peer s) i ≡ some d → due (w .station s) (peer s) i ≡ some d
+    acted-due i d now =
+        ⊎-elim (λ was. was)
+        (⊎-elim (λ one. absurd (true≢false (sym one ∙ no-request)))
+        (⊎-elim (λ two. absurd (true≢false (sym two ∙ no-acknowledge)))
+        (λ both. absurd (none-comes 2 (omega arith) (omega arith) (both .0) (both .1)))))
+        (step .due-before (peer s) i d now)
+
+  acted-calmly : (w : World) → Calm w → (s : Side) (e : Record) (a : Answer) (taken : Option Envelope) (rest : List Envelope)
+      → StepLaws (w .station s) e a → Comes (peer s) e (w .queue (other s)) taken rest → to 1 (peer s) a ≡ false → Calmly w (act peer w s e a taken rest)
+  acted-calmly w calm s e a taken rest step comes no-request = record { calm = quiet s comes step no-request; due-before = timers s comes step no-request }
+    where
+      quiet : (s : Side) → Comes (peer s) e (w .queue (other s)) taken rest → StepLaws (w .station s) e a → to 1 (peer s) a ≡ false → Calm (act peer w s e a taken rest)
+      quiet A comes step no-request A = all-posted (peer A) a _ _ _ (w .queue A) (calm A) (none-sent w calm A e a taken rest step comes no-request)
+      quiet A comes step no-request B = left (peer A) e (w .queue B) taken rest comes (calm B)
+      quiet B comes step no-request A = left (peer B) e (w .queue A) taken rest comes (calm A)
+      quiet B comes step no-request B = all-posted (peer B) a _ _ _ (w .queue B) (calm B) (none-sent w calm B e a taken rest step comes no-request)
+
+      timers : (s : Side) → Comes (peer s) e (w .queue (other s)) taken rest → StepLaws (w .station s) e a → to 1 (peer s) a ≡ false
+          → (r : Side) (i d : ℕ) → due (act peer w s e a taken rest .station r) (peer r) i ≡ some d → due (w .station r) (peer r) i ≡ some d
+      timers A comes step no-request A = acted-due w calm A e a taken rest step comes no-request
+      timers A comes step no-request B = λ i d now. now
+      timers B comes step no-request A = λ i d now. now
+      timers B comes step no-request B = acted-due w calm B e a taken rest step comes no-request
+
+  module _ {w w' : World} (good : Good peer w) (calm : Calm w) where
+    acts-calmly : (s : Side) (e : Record) (a : Answer) → Acts peer w s e a w' → to 1 (peer s) a ≡ false → Calmly w w'
+    acts-calmly s e a x no-request = rw (x .becomes) (acted-calmly w calm s e a (x .taken) (x .rest) (step-of peer good x) (x .comes) no-request)
+
+    calmly : (x : Step peer w w') → starts peer x ≡ false → Calmly w w'
+    calmly (acts s e a x) no-request = acts-calmly s e a x no-request
+    calmly (loses s x) no-request =
+        rw (x .becomes)
+        (record {
+          calm = λ r. all-fewer _ (w .queue r) (remain peer s (w .queue) (x .older) (x .lost) (x .younger) (x .was) r) (calm r);
+          due-before = λ r i d now. now;
+        })
+
+  calmly-all : {w w' : World} → Good peer w → Calm w → Still peer w w' → Good peer w' × Calmly w w'
+  calmly-all good calm here = (good, record { calm = calm; due-before = λ s i d now. now })
+  calmly-all good calm (onward still x none) =
+      let before = calmly-all good calm still in
+      let after = calmly (before .0) (before .1 .calm) x none in (
+        stepping peer (before .0) x,
+        record { calm = after .calm; due-before = λ s i d now. before .1 .due-before s i d (after .due-before s i d now) },
+      )
+
+  -- ---- the clocks
+
+  -- What a tick past every deadline answers with reply 9: none of them is there, nor comes later.
+  module _ {w w' : World} (good : Good peer w) (calm : Calm w) (s : Side) (t : ℕ) (past : Past peer w s t) (n : Nine peer s t w w') where
+    settles-at : AtRest peer w' s
+    settles-at =
+        let before = calmly-all good calm (n .still) in
+        let step = step-of peer (before .0) (n .acts) in
+        let tick = acts-calmly (before .0) (before .1 .calm) s (n .event) (n .answer) (n .acts) (tick-starts-none (step .source (peer s)) (n .kind)) in
+        let later = calmly-all (acted peer s (n .event) (n .answer) (before .0) (n .acts)) (tick .calm) (n .later) in
+        at-rest (later .0) s
+        (λ i d now.
+        let ticked = tick .due-before s i d (later .1 .due-before s i d now) in
+        let above = step .nine (peer s) i d (n .kind) (n .none-due) ticked in
+        let below = past i d (before .1 .due-before s i d ticked) in
+        let time = n .time in
+        omega arith)
+
+  pub demand : Demand peer
+  demand =
+      record {
+        fixed = λ w run. as-fixed (reached peer run);
+        settles = λ w w' run x s.
+            settles-at (reached peer run) (λ r. rw (x .empty r) nothing) s (x .time s) (x .past s) (x .nine s);
+        settled = λ w run x s.
+            let good = reached peer run in
+            at-rest good s
+            (λ i d now.
+            let above = step-laws (good .reached s) (x .tick s) (x .bearers) (x .room) .nine (peer s) i d (x .kind s) (x .none-due s) now in
+            let below = x .past s i d now in
+            omega arith);
+      }

@@ -1,0 +1,93 @@
+-- An event of a message kind with the other station's number is the oldest message to the station, unaltered; and what is left behind
+-- it keeps what held of all.
+use Prim.Native.Nat.{ℕ, _≤_}
+use mathlib.Core.Path.{_≡_, refl, sym, ap, _∙_}
+use mathlib.Core.Bool.{true, true≢false, false≢true}
+use mathlib.Core.List.{List, _∷_}
+use mathlib.Core.Option.{Option, some, Option·none-ne-some, Option·some-injective}
+use borrow.Author.Tests.{eqb-true, eq-eqb, le-leb}
+use native.Mathlib.Omega.{arith}
+use lib.Dec.{eqb}
+use Rattle.laws.proofs.Tests.{both-true}
+use Rattle.records.specs.declared.Record.{Record}
+use Rattle.table.specs.Events.{message}
+use Rattle.pair.specs.World.{Envelope, took, delivered, Carries, request, plain, Comes, own, take, All}
+use Rattle.pair.proofs.Lists.{Pairs, all-any, all-map, all-head, all-tail, pairs-head, pairs-tail}
+
+-- ---- what a message brings
+
+module _ (p : ℕ) (m e : Record) where
+  pub carries-kind : Carries p m e → e .kind ≡ m .kind
+  carries-kind (request was is neighbour old) = is ∙ sym was
+  carries-kind (plain other same) = ap (λ r. r .kind) same
+
+  as-sent : Carries p m e → (m .kind ≡ 1 → ⊥) → e ≡ delivered p m
+  as-sent (request was is neighbour old) other = absurd (other was)
+  as-sent (plain other same) apart = same
+
+  pub carries-request : Carries p m e → m .kind ≡ 1 → e .old .0 ≡ m .old .0
+  carries-request (request was is neighbour old) kind = old
+  carries-request (plain other same) kind = absurd (other kind)
+
+  pub carries-acknowledge : Carries p m e → m .kind ≡ 2 → (e .old .0 ≡ m .old .0) × (e .new .0 ≡ m .new .0) × (e .first ≡ m .first)
+  carries-acknowledge c kind =
+      let same = rw kind at (as-sent c (λ one. omega arith)) in
+      (ap (λ r. r .old .0) same, ap (λ r. r .new .0) same, ap (λ r. r .first) same)
+
+  pub carries-failure : Carries p m e → m .kind ≡ 3 → e .old .0 ≡ m .old .0
+  carries-failure c kind = ap (λ r. r .old .0) (rw kind at (as-sent c (λ one. omega arith)))
+
+  pub carries-release : Carries p m e → m .kind ≡ 5 → e ≡ message 5 p (m .old .0) (m .new .0) 0 0 0
+  carries-release c kind = rw kind at (as-sent c (λ one. omega arith))
+
+-- ---- the message taken
+
+pub record Taken (p : ℕ) (e : Record) (queue : List Envelope) (taken : Option Envelope) (rest : List Envelope) : Type 0 where
+  pub first : Envelope
+  pub is : taken ≡ some first
+  pub queued : queue ≡ first ∷ rest
+  pub carries : Carries p (first .message) e
+  pub kind : first .message .kind ≡ e .kind
+
+-- It is one that has the other station's number and a message's kind.
+pub taken-of : (k p : ℕ) (e : Record) (queue : List Envelope) (taken : Option Envelope) (rest : List Envelope)
+    → 1 ≤ k → k ≤ 8 → e .kind ≡ k → e .neighbour ≡ p → Comes p e queue taken rest → Taken p e queue taken rest
+taken-of k p e queue taken rest low high kind neighbour (own not-from) =
+    absurd (true≢false (rw (le-leb 1 (e .kind) (omega arith), le-leb (e .kind) 8 (omega arith), eq-eqb (e .neighbour) p neighbour) at not-from))
+taken-of k p e queue taken rest low high kind neighbour (take {m = m} queued carries) =
+    record { first = m; is = refl; queued = queued; carries = carries; kind = sym (carries-kind p (m .message) e carries) }
+
+-- A message of a kind and a handover was taken.
+pub took-of : (k h p : ℕ) (e : Record) (queue : List Envelope) (taken : Option Envelope) (rest : List Envelope) → Comes p e queue taken rest
+    → took k h taken ≡ true → (t : Taken p e queue taken rest) × (t .first .message .kind ≡ k) × (t .first .tag ≡ h)
+took-of k h p e queue taken rest (own not-from) never = absurd (false≢true never)
+took-of k h p e queue taken rest (take {m = m} queued carries) both =
+    let tests = both-true (eqb (m .message .kind) k) (eqb (m .tag) h) both in (
+      record { first = m; is = refl; queued = queued; carries = carries; kind = sym (carries-kind p (m .message) e carries) },
+      eqb-true (m .message .kind) k (tests .0),
+      eqb-true (m .tag) h (tests .1),
+    )
+
+-- What holds of all messages holds of it.
+pub first-of : {p : ℕ} {e : Record} {queue : List Envelope} {taken : Option Envelope} {rest : List Envelope} (P : Envelope → Type 0)
+    → (t : Taken p e queue taken rest) → All P queue → P (t .first)
+first-of P t ps = all-head (rw (t .queued) at ps)
+
+-- ---- what is left
+
+module _ (p : ℕ) (e : Record) (queue : List Envelope) where
+  pub left : {P : Envelope → Type 0} (taken : Option Envelope) (rest : List Envelope) → Comes p e queue taken rest → All P queue → All P rest
+  left taken rest (own not-from) ps = ps
+  left taken rest (take queued carries) ps = all-tail (rw queued at ps)
+
+  pub left-pairs : {P : Envelope → Envelope → Type 0} (taken : Option Envelope) (rest : List Envelope) → Comes p e queue taken rest
+      → Pairs P queue → Pairs P rest
+  left-pairs taken rest (own not-from) ps = ps
+  left-pairs taken rest (take queued carries) ps = pairs-tail (rw queued at ps)
+
+  -- The message taken stood before each.
+  pub left-behind : {P : Envelope → Envelope → Type 0} (taken : Option Envelope) (rest : List Envelope) → Comes p e queue taken rest
+      → Pairs P queue → All (λ y. (m : Envelope) → taken ≡ some m → P m y) rest
+  left-behind taken rest (own not-from) ps = all-any (λ y m is. absurd (Option·none-ne-some m is)) queue
+  left-behind taken rest (take {m = first} queued carries) ps =
+      all-map (λ y fits m is. rw (Option·some-injective first m is) at fits) (pairs-head (rw queued at ps))

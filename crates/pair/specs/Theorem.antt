@@ -1,0 +1,87 @@
+-- The theorem of two stations: whatever they do and whatever is lost, both think the same of each handover.
+use Prim.Native.Nat.{ℕ, _≤_}
+use mathlib.Core.Path.{_≡_}
+use mathlib.Core.Bool.{Bool, true, false}
+use mathlib.Core.List.{List, [], _∷_}
+use mathlib.Core.Logic.{_↔_}
+use mathlib.Core.Option.{some}
+use Rattle.records.specs.declared.Record.{Record}
+use Rattle.table.specs.declared.Answer.{Answer}
+use Rattle.table.specs.Step.{stepOf}
+use Rattle.table.specs.Views.{NotOut, Prepared, NotHeld, out, held, due, to, isOtherEnding}
+use Rattle.pair.specs.World.{Side, A, Handover, Fixed, World, Acts, Step, acts, loses, Run}
+
+-- Each handover that was asked for "has one ending at the source: moved if and only if the target saw the UE arrive and its release
+-- came while the source stood prepared"; if the UE arrived and the release did not so come, it is cancelled, overtime, returned or reset.
+pub record EndsOnce (k : Handover) : Type 0 where
+  pub end : ℕ
+  pub one : k .endings ≡ end ∷ []
+  pub moved : (end ≡ 3) ↔ ((k .arrived ≡ true) × (k .came ≡ true))
+  pub else : k .arrived ≡ true → k .came ≡ false → isOtherEnding end ≡ true
+
+module _ (peer : Side → ℕ) where
+  -- "A prepared handover carries the number and set the target fixed for that very request."
+  abbrev pub AsFixed : World → Side → Type 0
+  AsFixed w s =
+      (i number set : ℕ) → out (w .station s) (peer s) i ≡ Prepared number set
+      → (h : ℕ) × (w .numbers s .numberOf h ≡ i) × (w .numbers s .issueOf i ≡ h) × (w .handovers s h .asked ≡ true)
+      × (w .handovers s h .answer ≡ Fixed number set)
+
+  -- Neither station holds a reservation for the other or an outgoing record towards it, and each handover has ended once.
+  pub record AtRest (w : World) (s : Side) : Type 0 where
+    pub no-reservation : (i : ℕ) → held (w .station s) (peer s) i ≡ NotHeld
+    pub no-outgoing : (i : ℕ) → out (w .station s) (peer s) i ≡ NotOut
+    pub ended : (h : ℕ) → w .handovers s h .asked ≡ true → EndsOnce (w .handovers s h)
+
+  -- "Nothing is under way."
+  abbrev pub Empty : World → Type 0
+  Empty w = (s : Side) → w .queue s ≡ []
+
+  -- A time that is "past every deadline" of a station's records of the other.
+  abbrev pub Past : World → Side → ℕ → Type 0
+  Past w s t = (i d : ℕ) → due (w .station s) (peer s) i ≡ some d → d ≤ t
+
+  -- Steps in which neither station starts a handover towards the other.
+  abbrev pub starts : {w w' : World} → Step peer w w' → Bool
+  starts (acts s e a x) = to 1 (peer s) a
+  starts (loses s x) = false
+
+  pub data Still (w : World) : World → Type 0 where
+    here : Still w w
+    onward : {v w' : World} → Still w v → (x : Step peer v w') → starts x ≡ false → Still w w'
+
+  -- A station's clock is "ticked until none is due": a tick gets reply 9.
+  pub record Nine (s : Side) (t : ℕ) (w w' : World) : Type 0 where
+    pub before : World
+    pub still : Still w before
+    pub event : Record
+    pub answer : Answer
+    pub after : World
+    pub acts : Acts peer before s event answer after
+    pub kind : event .kind ≡ 15
+    pub time : event .time ≡ t
+    pub none-due : answer .outcome .reply ≡ 9
+    pub later : Still after w'
+
+  -- "Nothing is under way, and both clocks are ticked past every deadline until none is due."
+  pub record Settles (w w' : World) : Type 0 where
+    pub empty : Empty w
+    pub time : Side → ℕ
+    pub past : (s : Side) → Past w s (time s)
+    pub nine : (s : Side) → Nine s (time s) w w'
+
+  -- The same of one moment: nothing is under way, and at each station a tick past every deadline would get reply 9.
+  pub record Settled (w : World) : Type 0 where
+    pub empty : Empty w
+    pub tick : Side → Record
+    pub kind : (s : Side) → tick s .kind ≡ 15
+    pub past : (s : Side) → Past w s (tick s .time)
+    pub bearers : List ℕ
+    pub room : ℕ
+    pub none-due : (s : Side) → stepOf (w .station s) (tick s) bearers room .outcome .reply ≡ 9
+
+  -- The theorem.
+  pub record Demand : Type 0 where
+    pub fixed : (w : World) → Run peer w → (s : Side) → AsFixed w s
+    pub settles : (w w' : World) → Run peer w → Settles w w' → (s : Side) → AtRest w' s
+    pub settled : (w : World) → Run peer w → Settled w → (s : Side) → AtRest w s

@@ -1,0 +1,250 @@
+-- Two stations that know each other, the messages under way between them, and the history that the theorem speaks of.
+use Prim.Native.Nat.{ℕ, _+_, _<_}
+use mathlib.Core.Path.{_≡_}
+use mathlib.Core.Bool.{Bool, true, false, cond, not, _&&_, _||_}
+use mathlib.Core.List.{List, [], _∷_, _++_}
+use mathlib.Core.Option.{Option, none, some}
+use lib.Dec.{leb, eqb}
+use Rattle.records.specs.Record.{InRange}
+use Rattle.records.specs.declared.Record.{Record}
+use Rattle.table.specs.declared.Answer.{Answer}
+use Rattle.table.specs.declared.Station.{Station}
+use Rattle.table.specs.Events.{message}
+use Rattle.table.specs.Fields.{limit}
+use Rattle.table.specs.Step.{stepOf, bornOf}
+use Rattle.table.specs.Views.{Outgoing, NotOut, Preparing, Prepared, someOut, someHeld, out, held, sent, ending, to, issued}
+
+-- ---- two sides
+
+pub data Side : Type 0 where
+  A : Side
+  B : Side
+
+abbrev pub other : Side → Side
+other A = B
+other B = A
+
+-- what each side has, with one side's value replaced
+abbrev pub put : {T : Type 0} → Side → T → (Side → T) → Side → T
+put A new old A = new
+put A new old B = old B
+put B new old A = old A
+put B new old B = new
+
+-- ---- history: nothing of it is in a station or a message
+
+-- What a station has issued: how many own IDs; which issue last gave an own ID, 0 if none did; the own ID that an issue gave.
+-- Issues are counted from 1.
+pub record Numbers : Type 0 where
+  pub issuedCount : ℕ
+  pub issueOf : ℕ → ℕ
+  pub numberOf : ℕ → ℕ
+
+-- What a target answered to a request: nothing, a failure, or an acknowledge with this New ID and this admitted set.
+pub data Answered : Type 0 where
+  Silent : Answered
+  Refused : Answered
+  Fixed : (number set : ℕ) → Answered
+
+-- "A handover": a start towards the other station that was done. Its name is the number of the issue that gave its Old ID.
+-- Whether it was asked for; what the target answered to that very request; whether "the target saw the UE arrive"; whether its
+-- release "came while the source stood prepared"; "its endings at the source", the last first.
+pub record Handover : Type 0 where
+  pub asked : Bool
+  pub answer : Answered
+  pub arrived : Bool
+  pub came : Bool
+  pub endings : List ℕ
+
+abbrev pub untold : Handover
+untold = record { asked = false; answer = Silent; arrived = false; came = false; endings = [] }
+
+-- "A message under way": the handover it belongs to, 0 if to none, and how many own IDs each side had issued when it was sent.
+pub record Envelope : Type 0 where
+  pub message : Record
+  pub tag : ℕ
+  pub stamp : Side → ℕ
+
+-- The two stations, and the messages that each has sent, the oldest first; beside them, for each side as a source, the history: what
+-- it issued, for which of its handovers the other station last fixed a New ID, and its handovers.
+pub record World : Type 0 where
+  pub station : Side → Station
+  pub queue : Side → List Envelope
+  pub numbers : Side → Numbers
+  pub fixedFor : Side → ℕ → ℕ
+  pub handovers : Side → ℕ → Handover
+
+-- ---- what a step adds to the history
+
+-- an own ID is issued, or none
+abbrev pub issuing : Option ℕ → Numbers → Numbers
+issuing none n = n
+issuing (some i) n =
+    record {
+      issuedCount = n .issuedCount + 1;
+      issueOf = λ j. cond (eqb j i) (n .issuedCount + 1) (n .issueOf j);
+      numberOf = λ h. cond (eqb h (n .issuedCount + 1)) i (n .numberOf h);
+    }
+
+-- The record of a handover, among the outgoing ones: the one that has its own ID, if no later issue gave the same.
+abbrev pub recordOf : Numbers → (ℕ → Outgoing) → ℕ → Outgoing
+recordOf n records h = cond (eqb (n .issueOf (n .numberOf h)) h) (records (n .numberOf h)) NotOut
+
+abbrev pub isPrepared : Outgoing → Bool
+isPrepared NotOut = false
+isPrepared Preparing = false
+isPrepared (Prepared number set) = true
+
+-- whether a message of a kind was taken, of a handover
+abbrev pub took : ℕ → ℕ → Option Envelope → Bool
+took kind h none = false
+took kind h (some m) = eqb (m .message .kind) kind && eqb (m .tag) h
+
+abbrev pub tagOf : Option Envelope → ℕ
+tagOf none = 0
+tagOf (some m) = m .tag
+
+-- A handover after its source answered an event: a start of it is done; a release of it was taken while its record was prepared;
+-- its record leaves the table, with the ending of that step.
+abbrev pub atSource : ℕ → Station → Answer → Option Envelope → Numbers → ℕ → Handover → Handover
+atSource p x a taken n h k =
+    record {
+      asked = k .asked || (to 1 p a && eqb h (n .issuedCount + 1));
+      answer = k .answer;
+      arrived = k .arrived;
+      came = k .came || (took 5 h taken && isPrepared (recordOf n (out x p) h));
+      endings = cond (someOut (recordOf n (out x p) h) && not (someOut (recordOf n (out (a .station) p) h))) (ending a ∷ k .endings) (k .endings);
+    }
+
+-- A handover after its target answered an event: its request was taken, and acknowledged or refused; "kind 11 is taken on the held
+-- record" that was made for it.
+abbrev pub atTarget : ℕ → Station → Record → Answer → Option Envelope → (ℕ → ℕ) → ℕ → Handover → Handover
+atTarget p y e a taken fixed h k =
+    record {
+      asked = k .asked;
+      answer = cond (took 1 h taken && to 2 p a) (Fixed (sent a .new .0) (sent a .first)) (cond (took 1 h taken && to 3 p a) Refused (k .answer));
+      arrived = k .arrived || (eqb (e .kind) 11 && someHeld (held y p (e .new .0)) && eqb (fixed (e .new .0)) h);
+      came = k .came;
+      endings = k .endings;
+    }
+
+-- a New ID is fixed for the handover whose request was taken
+abbrev pub fixing : ℕ → Answer → Option Envelope → (ℕ → ℕ) → ℕ → ℕ
+fixing p a taken fixed n = cond (to 2 p a && eqb n (sent a .new .0)) (tagOf taken) (fixed n)
+
+-- The handover to which a message belongs: a request to the one that it starts, an answer to that of the request taken, a release
+-- to that for which its New ID was fixed.
+abbrev pub belongs : ℕ → Option Envelope → (ℕ → ℕ) → Record → ℕ
+belongs issue taken fixed m =
+    cond (eqb (m .kind) 1) issue
+    (cond (eqb (m .kind) 2 || eqb (m .kind) 3) (tagOf taken) (cond (eqb (m .kind) 5) (fixed (m .new .0)) 0))
+
+-- What is put under way: a message to the other station; "kind 20 goes to the MME and enters no queue".
+abbrev pub posted : ℕ → Answer → ℕ → (Side → ℕ) → List Envelope
+posted p a tag stamp =
+    cond (leb 1 (sent a .kind) && leb (sent a .kind) 8 && eqb (sent a .neighbour) p) (record { message = sent a; tag = tag; stamp = stamp } ∷ []) []
+
+-- ---- steps; `peer s` is "the number under which station s knows the other one"
+
+abbrev pub issuedAfter : World → Side → Answer → Side → Numbers
+issuedAfter w s a = put s (issuing (issued a) (w .numbers s)) (w .numbers)
+
+module _ (peer : Side → ℕ) where
+  -- One station answers an event, with the message that it took, if it did, and what is left under way to it. It is the source of
+  -- its own handovers and the target of the other's.
+  abbrev pub act : World → Side → Record → Answer → Option Envelope → List Envelope → World
+  act w s e a taken rest =
+      record {
+        station = put s (a .station) (w .station);
+        queue =
+            put s
+            (w .queue s ++ posted (peer s) a (belongs (w .numbers s .issuedCount + 1) taken (w .fixedFor (other s)) (sent a)) (λ r. issuedAfter w s a r .issuedCount))
+            (put (other s) rest (w .queue));
+        numbers = issuedAfter w s a;
+        fixedFor = put (other s) (fixing (peer s) a taken (w .fixedFor (other s))) (w .fixedFor);
+        handovers =
+            put s (λ h. atSource (peer s) (w .station s) a taken (w .numbers s) h (w .handovers s h))
+            (put (other s) (λ h. atTarget (peer s) (w .station s) e a taken (w .fixedFor (other s)) h (w .handovers (other s) h)) (w .handovers));
+      }
+
+-- "unaltered": a request reaches the other station with the same Old ID (its bearers and their count, and so all else, are open); of any
+-- other kind the fields that the kind uses are as sent, the others zero, and byte 1 has the sender's number.
+abbrev pub used : Record → ℕ → ℕ → ℕ
+used m field value = cond (eqb (limit (m .kind) field) 0) 0 value
+
+abbrev pub delivered : ℕ → Record → Record
+delivered p m =
+    message (m .kind) p (used m 1 (m .old .0)) (used m 2 (m .new .0)) (used m 3 (m .first)) (used m 4 (m .second)) (used m 5 (m .reason))
+
+pub data Carries (p : ℕ) (m : Record) (e : Record) : Type 0 where
+  request : m .kind ≡ 1 → e .kind ≡ 1 → e .neighbour ≡ p → e .old .0 ≡ m .old .0 → Carries p m e
+  plain : (m .kind ≡ 1 → ⊥) → e ≡ delivered p m → Carries p m e
+
+-- "A message event (kinds 1 to 8) with that number is taken from the queue and from nowhere else. All other events come at any time";
+-- "in order, at most once": the oldest message is taken, and then it is gone.
+abbrev pub isFrom : ℕ → Record → Bool
+isFrom p e = leb 1 (e .kind) && leb (e .kind) 8 && eqb (e .neighbour) p
+
+pub data Comes (p : ℕ) (e : Record) (queue : List Envelope) : Option Envelope → List Envelope → Type 0 where
+  own : isFrom p e ≡ false → Comes p e queue none queue
+  take : {m : Envelope} {rest : List Envelope} → queue ≡ m ∷ rest → Carries p (m .message) e → Comes p e queue (some m) rest
+
+-- what holds of every entry of a list
+pub data All {T : Type 0} (P : T → Type 0) : List T → Type 0 where
+  nothing : All P []
+  more : {x : T} {xs : List T} → P x → All P xs → All P (x ∷ xs)
+
+-- "Neither issues 2,000 numbers while a message is under way."
+abbrev pub Recent : Side → Numbers → Envelope → Type 0
+Recent s n m = n .issuedCount < m .stamp s + 2000
+
+abbrev pub Bounded : World → Type 0
+Bounded w = (r s : Side) → All (Recent s (w .numbers s)) (w .queue r)
+
+-- "Two fresh stations", of any settings: nothing is under way, and there is no history.
+abbrev pub start : (Side → Station) → World
+start fresh =
+    record {
+      station = fresh;
+      queue = λ s. [];
+      numbers = λ s. record { issuedCount = 0; issueOf = λ i. 0; numberOf = λ h. 0 };
+      fixedFor = λ s n. 0;
+      handovers = λ s h. untold;
+    }
+
+pub record Fresh (x : Station) : Type 0 where
+  pub capacity : ℕ
+  pub prep : ℕ
+  pub overall : ℕ
+  pub guard : ℕ
+  pub born : x ≡ bornOf capacity prep overall guard
+
+module _ (peer : Side → ℕ) where
+  -- A station takes an event, its own or the oldest message to it.
+  pub record Acts (w : World) (s : Side) (e : Record) (a : Answer) (w' : World) : Type 0 where
+    pub range : InRange e
+    pub bearers : List ℕ
+    pub room : ℕ
+    pub answers : a ≡ stepOf (w .station s) e bearers room
+    pub taken : Option Envelope
+    pub rest : List Envelope
+    pub comes : Comes (peer s) e (w .queue (other s)) taken rest
+    pub becomes : w' ≡ act peer w s e a taken rest
+    pub bounded : Bounded w'
+
+  -- "A message at any place may be lost."
+  pub record Loses (w : World) (s : Side) (w' : World) : Type 0 where
+    pub older : List Envelope
+    pub lost : Envelope
+    pub younger : List Envelope
+    pub was : w .queue s ≡ older ++ (lost ∷ younger)
+    pub becomes : w' ≡ record { station = w .station; queue = put s (older ++ younger) (w .queue); numbers = w .numbers; fixedFor = w .fixedFor; handovers = w .handovers }
+
+  pub data Step (w w' : World) : Type 0 where
+    acts : (s : Side) (e : Record) (a : Answer) → Acts w s e a w' → Step w w'
+    loses : (s : Side) → Loses w s w' → Step w w'
+
+  -- A world that two fresh stations reached.
+  pub data Run : World → Type 0 where
+    begin : (fresh : Side → Station) → ((s : Side) → Fresh (fresh s)) → Run (start fresh)
+    next : {w w' : World} → Run w → Step w w' → Run w'

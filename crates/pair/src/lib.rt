@@ -1,0 +1,1 @@
+// No code: what holds of two stations that know each other and exchange messages, stated and proved.
