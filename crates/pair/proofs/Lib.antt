@@ -2,3 +2,6 @@ pub mod Lists
 pub mod Ring
 pub mod Directions
 pub mod Invariant
+pub mod Scripts
+pub mod Runs
+pub mod Needed

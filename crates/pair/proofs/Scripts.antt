@@ -1,0 +1,305 @@
+-- A script says what two stations do. The worlds that it goes through are computed with the real step, and one test over it, computed
+-- too, makes it steps of the world.
+use Prim.Native.Nat.{ℕ, zero, suc, _/_, _+_, _^_, _<_}
+use mathlib.Core.Path.{_≡_, refl, sym, _∙_}
+use mathlib.Core.Bool.{Bool, true, false, cond, not, _&&_, false≢true}
+use mathlib.Core.List.{List, [], _∷_}
+use mathlib.Core.Option.{none, some}
+use borrow.Author.Tests.{eqb-true, eq-eqb, ltb-true, not-true}
+use lib.Count.{onesIn, ones}
+use native.Mathlib.Omega.{arith}
+use lib.Dec.{leb, eqb, ltb}
+use lib.ListN.{length, getD}
+use Rattle.laws.proofs.Tests.{by-cases, both-true}
+use Rattle.records.specs.Record.{little, recordOf, InRange}
+use Rattle.records.specs.declared.Record.{Record}
+use Rattle.bearers.specs.Admission.{total, those, turnsFrom, freeAt, verdict}
+use Rattle.bearers.specs.Bearer.{recordsIn, allBearers}
+use Rattle.bearers.specs.Sets.{add, setOf}
+use Rattle.table.specs.Events.{message}
+use Rattle.table.specs.Numbers.{blank, ownIs, anyOf, issueFrom}
+use Rattle.table.specs.Step.{stepOf}
+use Rattle.table.specs.Table.{findFrom, dueFrom, tally}
+use Rattle.table.specs.Views.{recordAt, named, dueOf, out, held, due}
+use Rattle.table.specs.declared.Entry.{Entry}
+use Rattle.table.specs.declared.Station.{Station}
+use Rattle.pair.specs.Theorem.{Settled}
+use Rattle.pair.specs.World.{Side, A, B, other, put, Numbers, Envelope, World, act, delivered, Carries, request, plain, isFrom, own, take, All, nothing, more, Recent, Bounded, Acts, Loses, Step, acts, loses, Run, next}
+
+-- ---- what a side does
+
+-- It takes an event of its own; it takes the oldest message to it, a request with these bearers; the oldest message to it is lost.
+pub data Move : Type 0 where
+  does : Side → Record → Move
+  hears : Side → List ℕ → Move
+  misses : Side → Move
+
+-- a message's record with a number and a time
+abbrev pub numbered : ℕ → ℕ → Record → Record
+numbered number time m =
+    record {
+      kind = m .kind;
+      neighbour = m .neighbour;
+      old = m .old;
+      new = m .new;
+      first = m .first;
+      second = m .second;
+      reason = m .reason;
+      byte11 = m .byte11;
+      number = number;
+      time = time;
+      erab = m .erab;
+      qci = m .qci;
+      priority = m .priority;
+      flags = m .flags;
+      bytes28 = m .bytes28;
+    }
+
+-- the event that a message is when it is taken
+abbrev pub arriving : ℕ → List ℕ → Record → Record
+arriving p bearers m = cond (eqb (m .kind) 1) (numbered (length bearers / 32) 0 (message 1 p (m .old .0) 0 0 0 0)) (delivered p m)
+
+carries : (p : ℕ) (bearers : List ℕ) (m : Record) → Carries p m (arriving p bearers m)
+carries p bearers m = by-cases (eqb (m .kind) 1) (λ t. rw t (request (eqb-true (m .kind) 1 t) refl refl refl)) (λ t. rw t (plain (λ k. false≢true (sym t ∙ eq-eqb (m .kind) 1 k)) refl))
+
+module _ (peer : Side → ℕ) where
+  abbrev pub hearing : World → Side → List ℕ → List Envelope → World
+  hearing w s bearers [] = w
+  hearing w s bearers (m ∷ rest) =
+      let e = arriving (peer s) bearers (m .message) in
+      act peer w s e (stepOf (w .station s) e bearers 256) (some m) rest
+
+  abbrev pub missing : World → Side → List Envelope → World
+  missing w s [] = w
+  missing w s (m ∷ rest) =
+      record { station = w .station; queue = put (other s) rest (w .queue); numbers = w .numbers; fixedFor = w .fixedFor; handovers = w .handovers }
+
+  -- the world after a move
+  abbrev pub after : World → Move → World
+  after w (does s e) = act peer w s e (stepOf (w .station s) e [] 256) none (w .queue (other s))
+  after w (hears s bearers) = hearing w s bearers (w .queue (other s))
+  after w (misses s) = missing w s (w .queue (other s))
+
+  -- and after all moves of a script; whatever a step says unfolds with it
+  unfoldable pub played : World → List Move → World
+  unfolding findFrom issueFrom anyOf dueFrom tally onesIn ones little recordOf total those turnsFrom freeAt verdict recordsIn allBearers setOf add named out held due
+  played w [] = w
+  played w (m ∷ ms) = played (after w m) ms
+
+-- ---- whether it may
+
+-- Fields with what each is below: the test, and what follows from it once for each of them.
+abbrev pub below : List (ℕ × ℕ) → Bool
+below [] = true
+below ((x, most) ∷ xs) = ltb x most && below xs
+
+abbrev pub Given : Type 0 → List (ℕ × ℕ) → Type 0
+Given G [] = G
+Given G ((x, most) ∷ xs) = x < most → Given G xs
+
+give : {G : Type 0} (xs : List (ℕ × ℕ)) → below xs ≡ true → Given G xs → G
+give [] t g = g
+give ((x, most) ∷ xs) t g = let both = both-true (ltb x most) (below xs) t in give xs (both .1) (g (ltb-true x most (both .0)))
+
+abbrev pub fields : Record → List (ℕ × ℕ)
+fields e =
+    (e .kind, 2 ^ 8) ∷ (e .neighbour, 2 ^ 8) ∷ (e .old .0, 2 ^ 16) ∷ (e .new .0, 2 ^ 16) ∷ (e .first, 2 ^ 16) ∷ (e .second, 2 ^ 16)
+    ∷ (e .reason, 2 ^ 8) ∷ (e .byte11, 2 ^ 8) ∷ (e .number, 2 ^ 32) ∷ (e .time, 2 ^ 64) ∷ (e .erab, 2 ^ 8) ∷ (e .qci, 2 ^ 8)
+    ∷ (e .priority, 2 ^ 8) ∷ (e .flags, 2 ^ 8) ∷ (e .bytes28, 2 ^ 32) ∷ []
+
+pub in-range : (e : Record) → below (fields e) ≡ true → InRange e
+in-range e t =
+    give (fields e) t
+    (λ a b c d f g h i j k l m n o p.
+    record {
+      kind = a;
+      neighbour = b;
+      old = c;
+      new = d;
+      first = f;
+      second = g;
+      reason = h;
+      byte11 = i;
+      number = j;
+      time = k;
+      erab = l;
+      qci = m;
+      priority = n;
+      flags = o;
+      bytes28 = p;
+    })
+
+-- neither side has issued 2,000 numbers since a message was sent
+abbrev pub recent : Side → Numbers → List Envelope → Bool
+recent s n [] = true
+recent s n (m ∷ ms) = ltb (n .issuedCount) (m .stamp s + 2000) && recent s n ms
+
+all-recent : (s : Side) (n : Numbers) (ms : List Envelope) → recent s n ms ≡ true → All (Recent s n) ms
+all-recent s n [] t = nothing
+all-recent s n (m ∷ ms) t =
+    let both = both-true (ltb (n .issuedCount) (m .stamp s + 2000)) (recent s n ms) t in
+    more (ltb-true (n .issuedCount) (m .stamp s + 2000) (both .0)) (all-recent s n ms (both .1))
+
+abbrev pub toBoth : (Side → Bool) → Bool
+toBoth test = test A && test B
+
+at-side : (test : Side → Bool) → toBoth test ≡ true → (s : Side) → test s ≡ true
+at-side test t A = both-true (test A) (test B) t .0
+at-side test t B = both-true (test A) (test B) t .1
+
+abbrev pub isBounded : World → Bool
+isBounded w = toBoth (λ r. toBoth (λ s. recent s (w .numbers s) (w .queue r)))
+
+pub bounded : (w : World) → isBounded w ≡ true → Bounded w
+bounded w t r s =
+    all-recent s (w .numbers s) (w .queue r)
+    (at-side (λ x. recent x (w .numbers x) (w .queue r)) (at-side (λ y. toBoth (λ x. recent x (w .numbers x) (w .queue y))) t r) s)
+
+module _ (peer : Side → ℕ) where
+  abbrev pub mayHear : World → Side → List ℕ → List Envelope → Bool
+  mayHear w s bearers [] = false
+  mayHear w s bearers (m ∷ rest) = below (fields (arriving (peer s) bearers (m .message))) && isBounded (hearing peer w s bearers (m ∷ rest))
+
+  abbrev pub mayMiss : List Envelope → Bool
+  mayMiss [] = false
+  mayMiss (m ∷ rest) = true
+
+  -- "a message event with that number is taken from the queue and from nowhere else"
+  abbrev pub may : World → Move → Bool
+  may w (does s e) = not (isFrom (peer s) e) && (below (fields e) && isBounded (after peer w (does s e)))
+  may w (hears s bearers) = mayHear w s bearers (w .queue (other s))
+  may w (misses s) = mayMiss (w .queue (other s))
+
+  -- A move that may be made is a step.
+  heard : (w : World) (s : Side) (bearers : List ℕ) (queue : List Envelope) → w .queue (other s) ≡ queue → mayHear w s bearers queue ≡ true → Step peer w (hearing peer w s bearers queue)
+  heard w s bearers [] q t = absurd (false≢true t)
+  heard w s bearers (m ∷ rest) q t =
+      let e = arriving (peer s) bearers (m .message) in
+      let both = both-true (below (fields e)) (isBounded (hearing peer w s bearers (m ∷ rest))) t in
+      acts s e (stepOf (w .station s) e bearers 256)
+      (record {
+        range = in-range e (both .0);
+        bearers = bearers;
+        room = 256;
+        answers = refl;
+        taken = some m;
+        rest = rest;
+        comes = take q (carries (peer s) bearers (m .message));
+        becomes = refl;
+        bounded = bounded (hearing peer w s bearers (m ∷ rest)) (both .1);
+      })
+
+  missed : (w : World) (s : Side) (queue : List Envelope) → w .queue (other s) ≡ queue → mayMiss queue ≡ true → Step peer w (missing peer w s queue)
+  missed w s [] q t = absurd (false≢true t)
+  missed w s (m ∷ rest) q t = loses (other s) (record { older = []; lost = m; younger = rest; was = q; becomes = refl })
+
+  pub step : (w : World) (m : Move) → may w m ≡ true → Step peer w (after peer w m)
+  step w (does s e) t =
+      let first = both-true (not (isFrom (peer s) e)) (below (fields e) && isBounded (after peer w (does s e))) t in
+      let second = both-true (below (fields e)) (isBounded (after peer w (does s e))) (first .1) in
+      acts s e (stepOf (w .station s) e [] 256)
+      (record {
+        range = in-range e (second .0);
+        bearers = [];
+        room = 256;
+        answers = refl;
+        taken = none;
+        rest = w .queue (other s);
+        comes = own (not-true (isFrom (peer s) e) (first .0));
+        becomes = refl;
+        bounded = bounded (after peer w (does s e)) (second .1);
+      })
+  step w (hears s bearers) t = heard w s bearers (w .queue (other s)) refl t
+  step w (misses s) t = missed w s (w .queue (other s)) refl t
+
+  -- ---- scripts
+
+  pub data Steps : World → World → Type 0 where
+    here : {w : World} → Steps w w
+    onward : {v w w' : World} → Step peer w v → Steps v w' → Steps w w'
+
+  pub run-on : {w w' : World} → Run peer w → Steps w w' → Run peer w'
+  run-on r here = r
+  run-on r (onward x xs) = run-on (next r x) xs
+
+  -- whether each of its moves may be made
+  unfoldable pub playable : World → List Move → Bool
+  unfolding played
+  playable w [] = true
+  playable w (m ∷ ms) = may w m && playable (after peer w m) ms
+
+  pub steps : (w : World) (script : List Move) → playable w script ≡ true → Steps w (played peer w script)
+  unfolding playable played
+  steps w [] t = here
+  steps w (m ∷ ms) t =
+      let both = both-true (may w m) (playable (after peer w m) ms) t in
+      onward (step w m (both .0)) (steps (after peer w m) ms (both .1))
+
+-- ---- the end
+
+-- the last tick that there is
+abbrev pub lastTick : Record
+lastTick = numbered 0 1000000000000 (message 15 0 0 0 0 0 0)
+
+abbrev pub isEmpty : List Envelope → Bool
+isEmpty [] = true
+isEmpty (m ∷ ms) = false
+
+empty : (ms : List Envelope) → isEmpty ms ≡ true → ms ≡ []
+empty [] t = refl
+empty (m ∷ ms) t = absurd (false≢true t)
+
+-- no record with a neighbour has a deadline
+abbrev pub isTimed : ℕ → Entry → Bool
+isTimed p r = leb 1 (r .state) && leb (r .state) 3 && eqb (r .neighbour) p
+
+abbrev pub noneTimed : ℕ → List Entry → Bool
+noneTimed p [] = true
+noneTimed p (r ∷ rs) = not (isTimed p r) && noneTimed p rs
+
+untimed : (p : ℕ) (rs : List Entry) → noneTimed p rs ≡ true → (i : ℕ) → isTimed p (getD rs i blank) ≡ false
+untimed p [] t i = refl
+untimed p (r ∷ rs) t zero = not-true (isTimed p r) (both-true (not (isTimed p r)) (noneTimed p rs) t .0)
+untimed p (r ∷ rs) t (suc i) = untimed p rs (both-true (not (isTimed p r)) (noneTimed p rs) t .1) i
+
+none-found : (p : ℕ) (s : Station) → noneTimed p (s .entries) ≡ true → (test : Entry → Bool) (k : ℕ) (rs : List Entry) → dueOf p (recordAt (findFrom test k rs) s) ≡ none
+unfolding findFrom
+none-found p s t test k [] = refl
+none-found p s t test k (r ∷ rs) = by-cases (test r) (λ h. rw (h, untimed p (s .entries) t k)) (λ h. rw h (none-found p s t test (k + 1) rs))
+
+not-due : (p : ℕ) (s : Station) → noneTimed p (s .entries) ≡ true → (i : ℕ) → due s p i ≡ none
+unfolding due named
+not-due p s t i = none-found p s t (ownIs i) 0 (s .entries)
+
+module _ (peer : Side → ℕ) where
+  -- whether nothing is under way from a side, it has no deadline with the other, and its last tick finds none
+  abbrev pub isDone : World → Side → Bool
+  isDone w s =
+      isEmpty (w .queue s)
+      && (noneTimed (peer s) (w .station s .entries) && eqb (stepOf (w .station s) lastTick [] 0 .outcome .reply) 9)
+
+  unfoldable pub isSettled : World → Bool
+  unfolding played
+  isSettled w = toBoth (isDone w)
+
+  pub settled : (w : World) → isSettled w ≡ true → Settled peer w
+  unfolding isSettled
+  settled w t =
+      record {
+        empty = λ s. empty (w .queue s) (first s .0);
+        tick = λ s. lastTick;
+        kind = λ s. refl;
+        past = λ s i d h. let none-due = not-due (peer s) (w .station s) (second s .0) i in let z : _≡_ {A = ℕ} 0 1 = cc in absurd (omega arith);
+        bearers = [];
+        room = 0;
+        none-due = λ s. eqb-true (stepOf (w .station s) lastTick [] 0 .outcome .reply) 9 (second s .1);
+      }
+    where
+      later : Side → Bool
+      later s = noneTimed (peer s) (w .station s .entries) && eqb (stepOf (w .station s) lastTick [] 0 .outcome .reply) 9
+
+      first : (s : Side) → (isEmpty (w .queue s) ≡ true) × (later s ≡ true)
+      first s = both-true (isEmpty (w .queue s)) (later s) (at-side (isDone w) t s)
+
+      second : (s : Side) → (noneTimed (peer s) (w .station s .entries) ≡ true) × (eqb (stepOf (w .station s) lastTick [] 0 .outcome .reply) 9 ≡ true)
+      second s = both-true (noneTimed (peer s) (w .station s .entries)) (eqb (stepOf (w .station s) lastTick [] 0 .outcome .reply) 9) (first s .1)
