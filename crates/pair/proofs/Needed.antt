@@ -13,7 +13,8 @@ use Rattle.table.specs.Views.{Prepared, out}
 use Rattle.pair.specs.Theorem.{AsFixed, Settled, AtRest}
 use Rattle.pair.specs.World.{Side, A, B, put, Refused, Fixed, Handover, Envelope, World, Bounded, Run}
 use Rattle.pair.proofs.Runs.{peer, both, fresh, starts, grants, answered, unanswered, arrives}
-use Rattle.pair.proofs.Scripts.{Move, does, after, in-range, isBounded, bounded, played, playable, isSettled, Steps, steps, run-on, settled}
+use Rattle.pair.proofs.Scripts.{Move, does, after, in-range, isBounded, bounded, played, playable, Steps, steps, run-on}
+use Rattle.pair.proofs.Settling.{isSettled, settled}
 
 -- ---- what is supposed not to happen
 

@@ -10,9 +10,10 @@ use Rattle.records.specs.declared.Record.{Record}
 use Rattle.table.specs.Events.{message}
 use Rattle.table.specs.Step.{bornOf}
 use Rattle.table.specs.Views.{Prepared, out}
-use Rattle.pair.specs.Theorem.{Settled}
+use Rattle.pair.specs.Theorem.{Settled, Settles}
 use Rattle.pair.specs.World.{Side, A, B, Answered, Silent, Refused, Fixed, Handover, World, start, Run, begin}
-use Rattle.pair.proofs.Scripts.{Move, does, hears, misses, numbered, played, playable, isSettled, steps, run-on, settled}
+use Rattle.pair.proofs.Scripts.{Move, does, hears, misses, played, playable, steps, run-on}
+use Rattle.pair.proofs.Settling.{tick, isSettled, settled, ended, maySettle, settles, settled-run}
 
 -- ---- two stations
 
@@ -82,64 +83,114 @@ abbrev pub told : Move
 told = hears B []
 
 abbrev pub ticks : Side → ℕ → Move
-ticks s time = does s (numbered 0 time (message 15 0 0 0 0 0 0))
+ticks s time = does s (tick time)
 
 -- ---- what becomes of it
-
--- handover 1 of A in a run of theirs: what B answered, whether the UE arrived, whether the release came while A stood prepared, the one ending
-pub record Ends (answer : Answered) (arrived came : Bool) (end : ℕ) : Type 0 where
-  pub world : World
-  pub run : Run peer world
-  pub settled : Settled peer world
-  pub handover : world .handovers A 1 ≡ record { asked = true; answer = answer; arrived = arrived; came = came; endings = end ∷ [] }
 
 pub fresh : Run peer both
 fresh = begin (λ s. bornOf 100 50 2000 3000) (λ s. record { capacity = 100; prep = 50; overall = 2000; guard = 3000; born = refl })
 
+-- Handover 1 of A after a run that settles: what B answered, whether the UE arrived, whether its release came while A stood prepared, and
+-- its one ending.
+pub record Ends (answer : Answered) (arrived came : Bool) (end : ℕ) : Type 0 where
+  pub quiet : World
+  pub run : Run peer quiet
+  pub world : World
+  pub settles : Settles peer quiet world
+  pub goes-on : Run peer world
+  pub settled : Settled peer world
+  pub handover : world .handovers A 1 ≡ record { asked = true; answer = answer; arrived = arrived; came = came; endings = end ∷ [] }
+
+-- a script, and ticks after it until none is due
+unfoldable pub outcome : List Move → List (Side × ℕ) → World
+unfolding played
+outcome script ts = ended peer (played peer both script) ts
+
+unfoldable pub comesOut : List Move → List (Side × ℕ) → Bool
+unfolding outcome playable isSettled
+comesOut script ts = playable peer both script && (maySettle peer (played peer both script) ts && isSettled peer (outcome script ts))
+
 module _ {answer : Answered} {arrived came : Bool} {end : ℕ} where
-  ends : (script : List Move) → (playable peer both script && isSettled peer (played peer both script)) ≡ true
-      → played peer both script .handovers A 1 ≡ record { asked = true; answer = answer; arrived = arrived; came = came; endings = end ∷ [] }
+  ends : (script : List Move) (ts : List (Side × ℕ)) → comesOut script ts ≡ true
+      → outcome script ts .handovers A 1 ≡ record { asked = true; answer = answer; arrived = arrived; came = came; endings = end ∷ [] }
       → Ends answer arrived came end
-  ends script t k =
-      let parts = both-true (playable peer both script) (isSettled peer (played peer both script)) t in
+  unfolding outcome comesOut
+  ends script ts t handover =
+      let quiet = played peer both script in
+      let first = both-true (playable peer both script) (maySettle peer quiet ts && isSettled peer (ended peer quiet ts)) t in
+      let second = both-true (maySettle peer quiet ts) (isSettled peer (ended peer quiet ts)) (first .1) in
+      let run = run-on peer fresh (steps peer both script (first .0)) in
+      let settling = settles peer quiet ts (second .0) in
       record {
-        world = played peer both script;
-        run = run-on peer fresh (steps peer both script (parts .0));
-        settled = settled peer (played peer both script) (parts .1);
-        handover = k;
+        quiet = quiet;
+        run = run;
+        world = ended peer quiet ts;
+        settles = settling;
+        goes-on = settled-run peer run settling;
+        settled = settled peer (ended peer quiet ts) (second .1);
+        handover = handover;
       }
+
+-- ---- a prepared handover
+
+-- It has what B fixed.
+pub prepared : (w : World) × Run peer w × (out (w .station A) 2 0 ≡ Prepared 0 1) × (w .handovers A 1 .answer ≡ Fixed 0 1)
+unfolding played playable
+prepared = (played peer both (starts ∷ grants ∷ answered ∷ []), run-on peer fresh (steps peer both (starts ∷ grants ∷ answered ∷ []) refl), refl, refl)
 
 -- ---- the UE arrived
 
 pub moved : Ends (Fixed 0 1) true true 3
-unfolding played playable isSettled
-moved = ends (starts ∷ grants ∷ answered ∷ arrives ∷ answered ∷ []) refl refl
+unfolding outcome comesOut
+moved = ends (starts ∷ grants ∷ answered ∷ arrives ∷ answered ∷ []) [] refl refl
 
 -- The release is lost.
-pub cancelled : Ends (Fixed 0 1) true false 2
-unfolding played playable isSettled
-cancelled = ends (starts ∷ grants ∷ arrives ∷ unanswered ∷ unanswered ∷ cancels ∷ told ∷ []) refl refl
+pub cancelled-lost : Ends (Fixed 0 1) true false 2
+unfolding outcome comesOut
+cancelled-lost = ends (starts ∷ grants ∷ arrives ∷ unanswered ∷ unanswered ∷ cancels ∷ told ∷ []) [] refl refl
 
 -- It comes while A is preparing, since the acknowledge is lost; then the time to prepare is over.
-pub cancelled-in-time : Ends (Fixed 0 1) true false 2
-unfolding played playable isSettled
-cancelled-in-time = ends (starts ∷ grants ∷ arrives ∷ unanswered ∷ answered ∷ ticks A 50 ∷ told ∷ []) refl refl
+pub cancelled-early : Ends (Fixed 0 1) true false 2
+unfolding outcome comesOut
+cancelled-early = ends (starts ∷ grants ∷ arrives ∷ unanswered ∷ answered ∷ ticks A 50 ∷ told ∷ []) [] refl refl
 
 -- It comes too late.
-pub returned : Ends (Fixed 0 1) true false 5
-unfolding played playable isSettled
-returned = ends (starts ∷ grants ∷ answered ∷ arrives ∷ returns ∷ answered ∷ []) refl refl
+pub returned-late : Ends (Fixed 0 1) true false 5
+unfolding outcome comesOut
+returned-late = ends (starts ∷ grants ∷ answered ∷ arrives ∷ returns ∷ answered ∷ []) [] refl refl
 
-pub overtime : Ends (Fixed 0 1) true false 4
-unfolding played playable isSettled
-overtime = ends (starts ∷ grants ∷ answered ∷ arrives ∷ ticks A 2000 ∷ answered ∷ []) refl refl
+pub overtime-late : Ends (Fixed 0 1) true false 4
+unfolding outcome comesOut
+overtime-late = ends (starts ∷ grants ∷ answered ∷ arrives ∷ ticks A 2000 ∷ answered ∷ []) [] refl refl
 
-pub reset : Ends (Fixed 0 1) true false 10
-unfolding played playable isSettled
-reset = ends (starts ∷ grants ∷ answered ∷ arrives ∷ resets ∷ answered ∷ told ∷ answered ∷ []) refl refl
+pub reset-late : Ends (Fixed 0 1) true false 10
+unfolding outcome comesOut
+reset-late = ends (starts ∷ grants ∷ answered ∷ arrives ∷ resets ∷ answered ∷ told ∷ answered ∷ []) [] refl refl
 
 -- ---- it did not
 
 pub failed : Ends Refused false false 1
-unfolding played playable isSettled
-failed = ends (starts ∷ refuses ∷ answered ∷ []) refl refl
+unfolding outcome comesOut
+failed = ends (starts ∷ refuses ∷ answered ∷ []) [] refl refl
+
+pub cancelled : Ends (Fixed 0 1) false false 2
+unfolding outcome comesOut
+cancelled = ends (starts ∷ grants ∷ answered ∷ cancels ∷ told ∷ []) [] refl refl
+
+-- These leave B's reservation to its guard.
+pub returned : Ends (Fixed 0 1) false false 5
+unfolding outcome comesOut
+returned = ends (starts ∷ grants ∷ answered ∷ returns ∷ []) ((B, 3000) ∷ []) refl refl
+
+pub overtime : Ends (Fixed 0 1) false false 4
+unfolding outcome comesOut
+overtime = ends (starts ∷ grants ∷ answered ∷ []) ((A, 2000) ∷ (B, 3000) ∷ []) refl refl
+
+pub reset : Ends (Fixed 0 1) false false 10
+unfolding outcome comesOut
+reset = ends (starts ∷ grants ∷ answered ∷ resets ∷ told ∷ answered ∷ []) [] refl refl
+
+-- The request itself is lost.
+pub cancelled-unheard : Ends Silent false false 2
+unfolding outcome comesOut
+cancelled-unheard = ends (starts ∷ misses B ∷ cancels ∷ told ∷ []) [] refl refl

@@ -1,11 +1,11 @@
 -- A script says what two stations do. The worlds that it goes through are computed with the real step, and one test over it, computed
 -- too, makes it steps of the world.
-use Prim.Native.Nat.{ℕ, zero, suc, _/_, _+_, _^_, _<_}
+use Prim.Native.Nat.{ℕ, zero, suc, _/_, _+_, _^_, _≤_, _<_}
 use mathlib.Core.Path.{_≡_, refl, sym, _∙_}
 use mathlib.Core.Bool.{Bool, true, false, cond, not, _&&_, false≢true}
 use mathlib.Core.List.{List, [], _∷_}
 use mathlib.Core.Option.{none, some}
-use borrow.Author.Tests.{eqb-true, eq-eqb, ltb-true, not-true}
+use borrow.Author.Tests.{eqb-true, eq-eqb, leb-true, ltb-true, not-true}
 use lib.Count.{onesIn, ones}
 use native.Mathlib.Omega.{arith}
 use lib.Dec.{leb, eqb, ltb}
@@ -19,11 +19,12 @@ use Rattle.bearers.specs.Sets.{add, setOf}
 use Rattle.table.specs.Events.{message}
 use Rattle.table.specs.Numbers.{blank, ownIs, anyOf, issueFrom}
 use Rattle.table.specs.Step.{stepOf}
-use Rattle.table.specs.Table.{findFrom, dueFrom, tally}
-use Rattle.table.specs.Views.{recordAt, named, dueOf, out, held, due}
+use Rattle.table.specs.Table.{find, findFrom, dueFrom, tally}
+use Rattle.table.specs.Views.{recordAt, named, dueOf, out, held, due, to}
+use Rattle.table.specs.declared.Answer.{Answer}
 use Rattle.table.specs.declared.Entry.{Entry}
 use Rattle.table.specs.declared.Station.{Station}
-use Rattle.pair.specs.Theorem.{Settled}
+use Rattle.pair.specs.Theorem.{Empty, Past, Settled, Still, here, onward, Nine, Settles}
 use Rattle.pair.specs.World.{Side, A, B, other, put, Numbers, Envelope, World, act, delivered, Carries, request, plain, isFrom, own, take, All, nothing, more, Recent, Bounded, Acts, Loses, Step, acts, loses, Run, next}
 
 -- ---- what a side does
@@ -143,7 +144,7 @@ all-recent s n (m ∷ ms) t =
 abbrev pub toBoth : (Side → Bool) → Bool
 toBoth test = test A && test B
 
-at-side : (test : Side → Bool) → toBoth test ≡ true → (s : Side) → test s ≡ true
+pub at-side : (test : Side → Bool) → toBoth test ≡ true → (s : Side) → test s ≡ true
 at-side test t A = both-true (test A) (test B) t .0
 at-side test t B = both-true (test A) (test B) t .1
 
@@ -193,12 +194,11 @@ module _ (peer : Side → ℕ) where
   missed w s [] q t = absurd (false≢true t)
   missed w s (m ∷ rest) q t = loses (other s) (record { older = []; lost = m; younger = rest; was = q; becomes = refl })
 
-  pub step : (w : World) (m : Move) → may w m ≡ true → Step peer w (after peer w m)
-  step w (does s e) t =
+  pub did : (w : World) (s : Side) (e : Record) → may w (does s e) ≡ true → Acts peer w s e (stepOf (w .station s) e [] 256) (after peer w (does s e))
+  did w s e t =
       let first = both-true (not (isFrom (peer s) e)) (below (fields e) && isBounded (after peer w (does s e))) t in
       let second = both-true (below (fields e)) (isBounded (after peer w (does s e))) (first .1) in
-      acts s e (stepOf (w .station s) e [] 256)
-      (record {
+      record {
         range = in-range e (second .0);
         bearers = [];
         room = 256;
@@ -208,19 +208,22 @@ module _ (peer : Side → ℕ) where
         comes = own (not-true (isFrom (peer s) e) (first .0));
         becomes = refl;
         bounded = bounded (after peer w (does s e)) (second .1);
-      })
+      }
+
+  pub step : (w : World) (m : Move) → may w m ≡ true → Step peer w (after peer w m)
+  step w (does s e) t = acts s e (stepOf (w .station s) e [] 256) (did w s e t)
   step w (hears s bearers) t = heard w s bearers (w .queue (other s)) refl t
   step w (misses s) t = missed w s (w .queue (other s)) refl t
 
   -- ---- scripts
 
   pub data Steps : World → World → Type 0 where
-    here : {w : World} → Steps w w
-    onward : {v w w' : World} → Step peer w v → Steps v w' → Steps w w'
+    done : {w : World} → Steps w w
+    first : {v w w' : World} → Step peer w v → Steps v w' → Steps w w'
 
   pub run-on : {w w' : World} → Run peer w → Steps w w' → Run peer w'
-  run-on r here = r
-  run-on r (onward x xs) = run-on (next r x) xs
+  run-on r done = r
+  run-on r (first x xs) = run-on (next r x) xs
 
   -- whether each of its moves may be made
   unfoldable pub playable : World → List Move → Bool
@@ -230,76 +233,7 @@ module _ (peer : Side → ℕ) where
 
   pub steps : (w : World) (script : List Move) → playable w script ≡ true → Steps w (played peer w script)
   unfolding playable played
-  steps w [] t = here
+  steps w [] t = done
   steps w (m ∷ ms) t =
       let both = both-true (may w m) (playable (after peer w m) ms) t in
-      onward (step w m (both .0)) (steps (after peer w m) ms (both .1))
-
--- ---- the end
-
--- the last tick that there is
-abbrev pub lastTick : Record
-lastTick = numbered 0 1000000000000 (message 15 0 0 0 0 0 0)
-
-abbrev pub isEmpty : List Envelope → Bool
-isEmpty [] = true
-isEmpty (m ∷ ms) = false
-
-empty : (ms : List Envelope) → isEmpty ms ≡ true → ms ≡ []
-empty [] t = refl
-empty (m ∷ ms) t = absurd (false≢true t)
-
--- no record with a neighbour has a deadline
-abbrev pub isTimed : ℕ → Entry → Bool
-isTimed p r = leb 1 (r .state) && leb (r .state) 3 && eqb (r .neighbour) p
-
-abbrev pub noneTimed : ℕ → List Entry → Bool
-noneTimed p [] = true
-noneTimed p (r ∷ rs) = not (isTimed p r) && noneTimed p rs
-
-untimed : (p : ℕ) (rs : List Entry) → noneTimed p rs ≡ true → (i : ℕ) → isTimed p (getD rs i blank) ≡ false
-untimed p [] t i = refl
-untimed p (r ∷ rs) t zero = not-true (isTimed p r) (both-true (not (isTimed p r)) (noneTimed p rs) t .0)
-untimed p (r ∷ rs) t (suc i) = untimed p rs (both-true (not (isTimed p r)) (noneTimed p rs) t .1) i
-
-none-found : (p : ℕ) (s : Station) → noneTimed p (s .entries) ≡ true → (test : Entry → Bool) (k : ℕ) (rs : List Entry) → dueOf p (recordAt (findFrom test k rs) s) ≡ none
-unfolding findFrom
-none-found p s t test k [] = refl
-none-found p s t test k (r ∷ rs) = by-cases (test r) (λ h. rw (h, untimed p (s .entries) t k)) (λ h. rw h (none-found p s t test (k + 1) rs))
-
-not-due : (p : ℕ) (s : Station) → noneTimed p (s .entries) ≡ true → (i : ℕ) → due s p i ≡ none
-unfolding due named
-not-due p s t i = none-found p s t (ownIs i) 0 (s .entries)
-
-module _ (peer : Side → ℕ) where
-  -- whether nothing is under way from a side, it has no deadline with the other, and its last tick finds none
-  abbrev pub isDone : World → Side → Bool
-  isDone w s =
-      isEmpty (w .queue s)
-      && (noneTimed (peer s) (w .station s .entries) && eqb (stepOf (w .station s) lastTick [] 0 .outcome .reply) 9)
-
-  unfoldable pub isSettled : World → Bool
-  unfolding played
-  isSettled w = toBoth (isDone w)
-
-  pub settled : (w : World) → isSettled w ≡ true → Settled peer w
-  unfolding isSettled
-  settled w t =
-      record {
-        empty = λ s. empty (w .queue s) (first s .0);
-        tick = λ s. lastTick;
-        kind = λ s. refl;
-        past = λ s i d h. let none-due = not-due (peer s) (w .station s) (second s .0) i in let z : _≡_ {A = ℕ} 0 1 = cc in absurd (omega arith);
-        bearers = [];
-        room = 0;
-        none-due = λ s. eqb-true (stepOf (w .station s) lastTick [] 0 .outcome .reply) 9 (second s .1);
-      }
-    where
-      later : Side → Bool
-      later s = noneTimed (peer s) (w .station s .entries) && eqb (stepOf (w .station s) lastTick [] 0 .outcome .reply) 9
-
-      first : (s : Side) → (isEmpty (w .queue s) ≡ true) × (later s ≡ true)
-      first s = both-true (isEmpty (w .queue s)) (later s) (at-side (isDone w) t s)
-
-      second : (s : Side) → (noneTimed (peer s) (w .station s .entries) ≡ true) × (eqb (stepOf (w .station s) lastTick [] 0 .outcome .reply) 9 ≡ true)
-      second s = both-true (noneTimed (peer s) (w .station s .entries)) (eqb (stepOf (w .station s) lastTick [] 0 .outcome .reply) 9) (first s .1)
+      first (step w m (both .0)) (steps (after peer w m) ms (both .1))
