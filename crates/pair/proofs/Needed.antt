@@ -11,16 +11,12 @@ use Rattle.records.specs.declared.Record.{Record}
 use Rattle.table.specs.Events.{message}
 use Rattle.table.specs.Views.{Prepared, out}
 use Rattle.pair.specs.Theorem.{AsFixed, Settled, AtRest}
-use Rattle.pair.specs.World.{Side, A, B, put, Refused, Fixed, Handover, Envelope, World, Bounded, Run}
-use Rattle.pair.proofs.Runs.{peer, both, fresh, starts, grants, answered, unanswered, arrives}
-use Rattle.pair.proofs.Scripts.{Move, does, after, in-range, isBounded, bounded, played, playable, Steps, steps, run-on}
+use Rattle.pair.specs.World.{Side, A, B, Refused, Fixed, Handover, Envelope, World, Bounded, Run}
+use Rattle.pair.proofs.Runs.{peer, both, history, fresh, starts, grants, answered, unanswered, arrives}
+use Rattle.pair.proofs.Scripts.{Move, does, underWay, after, in-range, isBounded, bounded, played, playable, Steps, steps, run-on}
 use Rattle.pair.proofs.Settling.{isSettled, settled}
 
 -- ---- what is supposed not to happen
-
-abbrev pub underWay : Side → List Envelope → World → World
-underWay s ms w =
-    record { station = w .station; queue = put s ms (w .queue); numbers = w .numbers; fixedFor = w .fixedFor; handovers = w .handovers }
 
 abbrev pub altered : Record → List Envelope → List Envelope
 altered other [] = []
@@ -72,7 +68,8 @@ module _ {Breach : World → World → Type 0} {Conclusion : World → Type 0} w
       }
 
 -- B fixed 0 for handover 1 of A, which is prepared with 7.
-not-as-fixed : (w : World) → out (w .station A) 2 0 ≡ Prepared 7 1 → w .numbers A .issueOf 0 ≡ 1 → w .handovers A 1 .answer ≡ Fixed 0 1 → AsFixed peer w A → ⊥
+not-as-fixed : (w : World) → out (w .station A) 2 0 ≡ Prepared 7 1 → w .numbers A .issueOf 0 ≡ 1 → w .handovers A 1 .answer ≡ Fixed 0 1
+    → AsFixed peer w A → ⊥
 not-as-fixed w prepared issue answer fixed =
     let found = fixed 0 7 1 prepared in
     let other = subst (λ (h : ℕ). w .handovers A h .answer ≡ Fixed 7 1) (sym (found .2) ∙ issue) (found .4) in
@@ -98,8 +95,7 @@ unaltered-needed =
     (not-as-fixed (played peer v (answered ∷ [])) refl refl refl)
 
 -- Handover 1 of A failed, although the UE arrived.
-not-at-rest : (w : World) → isSettled peer w ≡ true → w .handovers A 1 ≡ record { asked = true; answer = Refused; arrived = true; came = false; endings = 1 ∷ [] }
-    → (Settled peer w → AtRest peer w A) → ⊥
+not-at-rest : (w : World) → isSettled peer w ≡ true → w .handovers A 1 ≡ history Refused true false 1 → (Settled peer w → AtRest peer w A) → ⊥
 not-at-rest w t handover rest =
     let once = rest (settled peer w t) .ended 1 (ap (λ (k : Handover). k .asked) handover) in
     let other = once .else (ap (λ (k : Handover). k .arrived) handover) (ap (λ (k : Handover). k .came) handover) in

@@ -6,9 +6,8 @@ use mathlib.Core.Bool.{Bool, true, false, _&&_}
 use mathlib.Core.List.{List, [], _∷_}
 use Rattle.laws.proofs.Tests.{both-true}
 use Rattle.records.specs.Record.{bytesOf}
-use Rattle.records.specs.declared.Record.{Record}
 use Rattle.table.specs.Events.{message}
-use Rattle.table.specs.Step.{bornOf}
+use Rattle.table.specs.Step.{bornOf, stepOf}
 use Rattle.table.specs.Views.{Prepared, out}
 use Rattle.pair.specs.Theorem.{Settled, Settles}
 use Rattle.pair.specs.World.{Side, A, B, Answered, Silent, Refused, Fixed, Handover, World, start, Run, begin}
@@ -90,8 +89,11 @@ ticks s time = does s (tick time)
 pub fresh : Run peer both
 fresh = begin (λ s. bornOf 100 50 2000 3000) (λ s. record { capacity = 100; prep = 50; overall = 2000; guard = 3000; born = refl })
 
--- Handover 1 of A after a run that settles: what B answered, whether the UE arrived, whether its release came while A stood prepared, and
--- its one ending.
+-- what is told of it: what B answered, whether the UE arrived, whether its release came while A stood prepared, its one ending
+abbrev pub history : Answered → Bool → Bool → ℕ → Handover
+history answer arrived came end = record { asked = true; answer = answer; arrived = arrived; came = came; endings = end ∷ [] }
+
+-- This is told of it after a run that settles.
 pub record Ends (answer : Answered) (arrived came : Bool) (end : ℕ) : Type 0 where
   pub quiet : World
   pub run : Run peer quiet
@@ -99,7 +101,7 @@ pub record Ends (answer : Answered) (arrived came : Bool) (end : ℕ) : Type 0 w
   pub settles : Settles peer quiet world
   pub goes-on : Run peer world
   pub settled : Settled peer world
-  pub handover : world .handovers A 1 ≡ record { asked = true; answer = answer; arrived = arrived; came = came; endings = end ∷ [] }
+  pub handover : world .handovers A 1 ≡ history answer arrived came end
 
 -- a script, and ticks after it until none is due
 unfoldable pub outcome : List Move → List (Side × ℕ) → World
@@ -112,8 +114,7 @@ comesOut script ts = playable peer both script && (maySettle peer (played peer b
 
 module _ {answer : Answered} {arrived came : Bool} {end : ℕ} where
   ends : (script : List Move) (ts : List (Side × ℕ)) → comesOut script ts ≡ true
-      → outcome script ts .handovers A 1 ≡ record { asked = true; answer = answer; arrived = arrived; came = came; endings = end ∷ [] }
-      → Ends answer arrived came end
+      → outcome script ts .handovers A 1 ≡ history answer arrived came end → Ends answer arrived came end
   unfolding outcome comesOut
   ends script ts t handover =
       let quiet = played peer both script in
@@ -136,7 +137,22 @@ module _ {answer : Answered} {arrived came : Bool} {end : ℕ} where
 -- It has what B fixed.
 pub prepared : (w : World) × Run peer w × (out (w .station A) 2 0 ≡ Prepared 0 1) × (w .handovers A 1 .answer ≡ Fixed 0 1)
 unfolding played playable
-prepared = (played peer both (starts ∷ grants ∷ answered ∷ []), run-on peer fresh (steps peer both (starts ∷ grants ∷ answered ∷ []) refl), refl, refl)
+prepared =
+    let script = starts ∷ grants ∷ answered ∷ [] in
+    (played peer both script, run-on peer fresh (steps peer both script refl), refl, refl)
+
+-- ---- B's release, which A takes while it is preparing, or too late
+
+abbrev pub replied : List Move → ℕ
+replied script = stepOf (played peer both script .station A) (message 5 2 0 0 0 0 0) [] 256 .outcome .reply
+
+pub early : replied (starts ∷ grants ∷ arrives ∷ unanswered ∷ []) ≡ 6
+unfolding played
+early = refl
+
+pub late : replied (starts ∷ grants ∷ answered ∷ arrives ∷ returns ∷ []) ≡ 2
+unfolding played
+late = refl
 
 -- ---- the UE arrived
 

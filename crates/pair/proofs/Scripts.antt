@@ -1,15 +1,14 @@
 -- A script says what two stations do. The worlds that it goes through are computed with the real step, and one test over it, computed
 -- too, makes it steps of the world.
-use Prim.Native.Nat.{ℕ, zero, suc, _/_, _+_, _^_, _≤_, _<_}
+use Prim.Native.Nat.{ℕ, _/_, _+_, _^_, _<_}
 use mathlib.Core.Path.{_≡_, refl, sym, _∙_}
 use mathlib.Core.Bool.{Bool, true, false, cond, not, _&&_, false≢true}
 use mathlib.Core.List.{List, [], _∷_}
 use mathlib.Core.Option.{none, some}
-use borrow.Author.Tests.{eqb-true, eq-eqb, leb-true, ltb-true, not-true}
+use borrow.Author.Tests.{eqb-true, eq-eqb, ltb-true, not-true}
 use lib.Count.{onesIn, ones}
-use native.Mathlib.Omega.{arith}
-use lib.Dec.{leb, eqb, ltb}
-use lib.ListN.{length, getD}
+use lib.Dec.{eqb, ltb}
+use lib.ListN.{length}
 use Rattle.laws.proofs.Tests.{by-cases, both-true}
 use Rattle.records.specs.Record.{little, recordOf, InRange}
 use Rattle.records.specs.declared.Record.{Record}
@@ -17,15 +16,11 @@ use Rattle.bearers.specs.Admission.{total, those, turnsFrom, freeAt, verdict}
 use Rattle.bearers.specs.Bearer.{recordsIn, allBearers}
 use Rattle.bearers.specs.Sets.{add, setOf}
 use Rattle.table.specs.Events.{message}
-use Rattle.table.specs.Numbers.{blank, ownIs, anyOf, issueFrom}
+use Rattle.table.specs.Numbers.{anyOf, issueFrom}
 use Rattle.table.specs.Step.{stepOf}
-use Rattle.table.specs.Table.{find, findFrom, dueFrom, tally}
-use Rattle.table.specs.Views.{recordAt, named, dueOf, out, held, due, to}
-use Rattle.table.specs.declared.Answer.{Answer}
-use Rattle.table.specs.declared.Entry.{Entry}
-use Rattle.table.specs.declared.Station.{Station}
-use Rattle.pair.specs.Theorem.{Empty, Past, Settled, Still, here, onward, Nine, Settles}
-use Rattle.pair.specs.World.{Side, A, B, other, put, Numbers, Envelope, World, act, delivered, Carries, request, plain, isFrom, own, take, All, nothing, more, Recent, Bounded, Acts, Loses, Step, acts, loses, Run, next}
+use Rattle.table.specs.Table.{findFrom, dueFrom, tally}
+use Rattle.table.specs.Views.{named, out, held, due}
+use Rattle.pair.specs.World.{Side, A, B, other, put, Numbers, Envelope, World, act, delivered, Carries, request, plain, isFrom, own, take, All, nothing, more, Recent, Bounded, Acts, Step, acts, loses, Run, next}
 
 -- ---- what a side does
 
@@ -61,7 +56,14 @@ abbrev pub arriving : ℕ → List ℕ → Record → Record
 arriving p bearers m = cond (eqb (m .kind) 1) (numbered (length bearers / 32) 0 (message 1 p (m .old .0) 0 0 0 0)) (delivered p m)
 
 carries : (p : ℕ) (bearers : List ℕ) (m : Record) → Carries p m (arriving p bearers m)
-carries p bearers m = by-cases (eqb (m .kind) 1) (λ t. rw t (request (eqb-true (m .kind) 1 t) refl refl refl)) (λ t. rw t (plain (λ k. false≢true (sym t ∙ eq-eqb (m .kind) 1 k)) refl))
+carries p bearers m =
+    by-cases (eqb (m .kind) 1) (λ t. rw t (request (eqb-true (m .kind) 1 t) refl refl refl))
+    (λ t. rw t (plain (λ k. false≢true (sym t ∙ eq-eqb (m .kind) 1 k)) refl))
+
+-- the world with these messages under way from a side
+abbrev pub underWay : Side → List Envelope → World → World
+underWay s ms w =
+    record { station = w .station; queue = put s ms (w .queue); numbers = w .numbers; fixedFor = w .fixedFor; handovers = w .handovers }
 
 module _ (peer : Side → ℕ) where
   abbrev pub hearing : World → Side → List ℕ → List Envelope → World
@@ -72,8 +74,7 @@ module _ (peer : Side → ℕ) where
 
   abbrev pub missing : World → Side → List Envelope → World
   missing w s [] = w
-  missing w s (m ∷ rest) =
-      record { station = w .station; queue = put (other s) rest (w .queue); numbers = w .numbers; fixedFor = w .fixedFor; handovers = w .handovers }
+  missing w s (m ∷ rest) = underWay (other s) rest w
 
   -- the world after a move
   abbrev pub after : World → Move → World
@@ -172,7 +173,8 @@ module _ (peer : Side → ℕ) where
   may w (misses s) = mayMiss (w .queue (other s))
 
   -- A move that may be made is a step.
-  heard : (w : World) (s : Side) (bearers : List ℕ) (queue : List Envelope) → w .queue (other s) ≡ queue → mayHear w s bearers queue ≡ true → Step peer w (hearing peer w s bearers queue)
+  heard : (w : World) (s : Side) (bearers : List ℕ) (queue : List Envelope) → w .queue (other s) ≡ queue → mayHear w s bearers queue ≡ true
+      → Step peer w (hearing peer w s bearers queue)
   heard w s bearers [] q t = absurd (false≢true t)
   heard w s bearers (m ∷ rest) q t =
       let e = arriving (peer s) bearers (m .message) in

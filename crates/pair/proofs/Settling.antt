@@ -49,7 +49,8 @@ by-at time [] t i = omega arith
 by-at time (r ∷ rs) t zero = leb-true (r .deadline) time (both-true (leb (r .deadline) time) (allBy time rs) t .0)
 by-at time (r ∷ rs) t (suc i) = by-at time rs (both-true (leb (r .deadline) time) (allBy time rs) t .1) i
 
-by-found : (time : ℕ) (s : Station) → allBy time (s .entries) ≡ true → (test : Entry → Bool) (i : ℕ) (rs : List Entry) → recordAt (findFrom test i rs) s .deadline ≤ time
+by-found : (time : ℕ) (s : Station) → allBy time (s .entries) ≡ true → (test : Entry → Bool) (i : ℕ) (rs : List Entry)
+    → recordAt (findFrom test i rs) s .deadline ≤ time
 unfolding findFrom
 by-found time s t test i [] = omega arith
 by-found time s t test i (r ∷ rs) = by-cases (test r) (λ h. rw h (by-at time (s .entries) t i)) (λ h. rw h (by-found time s t test (i + 1) rs))
