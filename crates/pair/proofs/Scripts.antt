@@ -1,0 +1,241 @@
+-- A script says what two stations do. The worlds that it goes through are computed with the real step, and one test over it, computed
+-- too, makes it steps of the world.
+use Prim.Native.Nat.{ℕ, _/_, _+_, _^_, _<_}
+use mathlib.Core.Path.{_≡_, refl, sym, _∙_}
+use mathlib.Core.Bool.{Bool, true, false, cond, not, _&&_, false≢true}
+use mathlib.Core.List.{List, [], _∷_}
+use mathlib.Core.Option.{none, some}
+use borrow.Author.Tests.{eqb-true, eq-eqb, ltb-true, not-true}
+use lib.Count.{onesIn, ones}
+use lib.Dec.{eqb, ltb}
+use lib.ListN.{length}
+use Rattle.laws.proofs.Tests.{by-cases, both-true}
+use Rattle.records.specs.Record.{little, recordOf, InRange}
+use Rattle.records.specs.declared.Record.{Record}
+use Rattle.bearers.specs.Admission.{total, those, turnsFrom, freeAt, verdict}
+use Rattle.bearers.specs.Bearer.{recordsIn, allBearers}
+use Rattle.bearers.specs.Sets.{add, setOf}
+use Rattle.table.specs.Events.{message}
+use Rattle.table.specs.Numbers.{anyOf, issueFrom}
+use Rattle.table.specs.Step.{stepOf}
+use Rattle.table.specs.Table.{findFrom, dueFrom, tally}
+use Rattle.table.specs.Views.{named, out, held, due}
+use Rattle.pair.specs.World.{Side, A, B, other, put, Numbers, Envelope, World, act, delivered, Carries, request, plain, isFrom, own, take, All, nothing, more, Recent, Bounded, Acts, Step, acts, loses, Run, next}
+
+-- ---- what a side does
+
+-- It takes an event of its own; it takes the oldest message to it, a request with these bearers; the oldest message to it is lost.
+pub data Move : Type 0 where
+  does : Side → Record → Move
+  hears : Side → List ℕ → Move
+  misses : Side → Move
+
+-- a message's record with a number and a time
+abbrev pub numbered : ℕ → ℕ → Record → Record
+numbered number time m =
+    record {
+      kind = m .kind;
+      neighbour = m .neighbour;
+      old = m .old;
+      new = m .new;
+      first = m .first;
+      second = m .second;
+      reason = m .reason;
+      byte11 = m .byte11;
+      number = number;
+      time = time;
+      erab = m .erab;
+      qci = m .qci;
+      priority = m .priority;
+      flags = m .flags;
+      bytes28 = m .bytes28;
+    }
+
+-- the event that a message is when it is taken
+abbrev pub arriving : ℕ → List ℕ → Record → Record
+arriving p bearers m = cond (eqb (m .kind) 1) (numbered (length bearers / 32) 0 (message 1 p (m .old .0) 0 0 0 0)) (delivered p m)
+
+carries : (p : ℕ) (bearers : List ℕ) (m : Record) → Carries p m (arriving p bearers m)
+carries p bearers m =
+    by-cases (eqb (m .kind) 1) (λ t. rw t (request (eqb-true (m .kind) 1 t) refl refl refl))
+    (λ t. rw t (plain (λ k. false≢true (sym t ∙ eq-eqb (m .kind) 1 k)) refl))
+
+-- the world with these messages under way from a side
+abbrev pub underWay : Side → List Envelope → World → World
+underWay s ms w =
+    record { station = w .station; queue = put s ms (w .queue); numbers = w .numbers; fixedFor = w .fixedFor; handovers = w .handovers }
+
+module _ (peer : Side → ℕ) where
+  abbrev pub hearing : World → Side → List ℕ → List Envelope → World
+  hearing w s bearers [] = w
+  hearing w s bearers (m ∷ rest) =
+      let e = arriving (peer s) bearers (m .message) in
+      act peer w s e (stepOf (w .station s) e bearers 256) (some m) rest
+
+  abbrev pub missing : World → Side → List Envelope → World
+  missing w s [] = w
+  missing w s (m ∷ rest) = underWay (other s) rest w
+
+  -- the world after a move
+  abbrev pub after : World → Move → World
+  after w (does s e) = act peer w s e (stepOf (w .station s) e [] 256) none (w .queue (other s))
+  after w (hears s bearers) = hearing w s bearers (w .queue (other s))
+  after w (misses s) = missing w s (w .queue (other s))
+
+  -- and after all moves of a script; whatever a step says unfolds with it
+  unfoldable pub played : World → List Move → World
+  unfolding findFrom issueFrom anyOf dueFrom tally onesIn ones little recordOf total those turnsFrom freeAt verdict recordsIn allBearers setOf add named out held due
+  played w [] = w
+  played w (m ∷ ms) = played (after w m) ms
+
+-- ---- whether it may
+
+-- Fields with what each is below: the test, and what follows from it once for each of them.
+abbrev pub below : List (ℕ × ℕ) → Bool
+below [] = true
+below ((x, most) ∷ xs) = ltb x most && below xs
+
+abbrev pub Given : Type 0 → List (ℕ × ℕ) → Type 0
+Given G [] = G
+Given G ((x, most) ∷ xs) = x < most → Given G xs
+
+give : {G : Type 0} (xs : List (ℕ × ℕ)) → below xs ≡ true → Given G xs → G
+give [] t g = g
+give ((x, most) ∷ xs) t g = let both = both-true (ltb x most) (below xs) t in give xs (both .1) (g (ltb-true x most (both .0)))
+
+abbrev pub fields : Record → List (ℕ × ℕ)
+fields e =
+    (e .kind, 2 ^ 8) ∷ (e .neighbour, 2 ^ 8) ∷ (e .old .0, 2 ^ 16) ∷ (e .new .0, 2 ^ 16) ∷ (e .first, 2 ^ 16) ∷ (e .second, 2 ^ 16)
+    ∷ (e .reason, 2 ^ 8) ∷ (e .byte11, 2 ^ 8) ∷ (e .number, 2 ^ 32) ∷ (e .time, 2 ^ 64) ∷ (e .erab, 2 ^ 8) ∷ (e .qci, 2 ^ 8)
+    ∷ (e .priority, 2 ^ 8) ∷ (e .flags, 2 ^ 8) ∷ (e .bytes28, 2 ^ 32) ∷ []
+
+pub in-range : (e : Record) → below (fields e) ≡ true → InRange e
+in-range e t =
+    give (fields e) t
+    (λ a b c d f g h i j k l m n o p.
+    record {
+      kind = a;
+      neighbour = b;
+      old = c;
+      new = d;
+      first = f;
+      second = g;
+      reason = h;
+      byte11 = i;
+      number = j;
+      time = k;
+      erab = l;
+      qci = m;
+      priority = n;
+      flags = o;
+      bytes28 = p;
+    })
+
+-- neither side has issued 2,000 numbers since a message was sent
+abbrev pub recent : Side → Numbers → List Envelope → Bool
+recent s n [] = true
+recent s n (m ∷ ms) = ltb (n .issuedCount) (m .stamp s + 2000) && recent s n ms
+
+all-recent : (s : Side) (n : Numbers) (ms : List Envelope) → recent s n ms ≡ true → All (Recent s n) ms
+all-recent s n [] t = nothing
+all-recent s n (m ∷ ms) t =
+    let both = both-true (ltb (n .issuedCount) (m .stamp s + 2000)) (recent s n ms) t in
+    more (ltb-true (n .issuedCount) (m .stamp s + 2000) (both .0)) (all-recent s n ms (both .1))
+
+abbrev pub toBoth : (Side → Bool) → Bool
+toBoth test = test A && test B
+
+pub at-side : (test : Side → Bool) → toBoth test ≡ true → (s : Side) → test s ≡ true
+at-side test t A = both-true (test A) (test B) t .0
+at-side test t B = both-true (test A) (test B) t .1
+
+abbrev pub isBounded : World → Bool
+isBounded w = toBoth (λ r. toBoth (λ s. recent s (w .numbers s) (w .queue r)))
+
+pub bounded : (w : World) → isBounded w ≡ true → Bounded w
+bounded w t r s =
+    all-recent s (w .numbers s) (w .queue r)
+    (at-side (λ x. recent x (w .numbers x) (w .queue r)) (at-side (λ y. toBoth (λ x. recent x (w .numbers x) (w .queue y))) t r) s)
+
+module _ (peer : Side → ℕ) where
+  abbrev pub mayHear : World → Side → List ℕ → List Envelope → Bool
+  mayHear w s bearers [] = false
+  mayHear w s bearers (m ∷ rest) = below (fields (arriving (peer s) bearers (m .message))) && isBounded (hearing peer w s bearers (m ∷ rest))
+
+  abbrev pub mayMiss : List Envelope → Bool
+  mayMiss [] = false
+  mayMiss (m ∷ rest) = true
+
+  -- "a message event with that number is taken from the queue and from nowhere else"
+  abbrev pub may : World → Move → Bool
+  may w (does s e) = not (isFrom (peer s) e) && (below (fields e) && isBounded (after peer w (does s e)))
+  may w (hears s bearers) = mayHear w s bearers (w .queue (other s))
+  may w (misses s) = mayMiss (w .queue (other s))
+
+  -- A move that may be made is a step.
+  heard : (w : World) (s : Side) (bearers : List ℕ) (queue : List Envelope) → w .queue (other s) ≡ queue → mayHear w s bearers queue ≡ true
+      → Step peer w (hearing peer w s bearers queue)
+  heard w s bearers [] q t = absurd (false≢true t)
+  heard w s bearers (m ∷ rest) q t =
+      let e = arriving (peer s) bearers (m .message) in
+      let both = both-true (below (fields e)) (isBounded (hearing peer w s bearers (m ∷ rest))) t in
+      acts s e (stepOf (w .station s) e bearers 256)
+      (record {
+        range = in-range e (both .0);
+        bearers = bearers;
+        room = 256;
+        answers = refl;
+        taken = some m;
+        rest = rest;
+        comes = take q (carries (peer s) bearers (m .message));
+        becomes = refl;
+        bounded = bounded (hearing peer w s bearers (m ∷ rest)) (both .1);
+      })
+
+  missed : (w : World) (s : Side) (queue : List Envelope) → w .queue (other s) ≡ queue → mayMiss queue ≡ true → Step peer w (missing peer w s queue)
+  missed w s [] q t = absurd (false≢true t)
+  missed w s (m ∷ rest) q t = loses (other s) (record { older = []; lost = m; younger = rest; was = q; becomes = refl })
+
+  pub did : (w : World) (s : Side) (e : Record) → may w (does s e) ≡ true → Acts peer w s e (stepOf (w .station s) e [] 256) (after peer w (does s e))
+  did w s e t =
+      let first = both-true (not (isFrom (peer s) e)) (below (fields e) && isBounded (after peer w (does s e))) t in
+      let second = both-true (below (fields e)) (isBounded (after peer w (does s e))) (first .1) in
+      record {
+        range = in-range e (second .0);
+        bearers = [];
+        room = 256;
+        answers = refl;
+        taken = none;
+        rest = w .queue (other s);
+        comes = own (not-true (isFrom (peer s) e) (first .0));
+        becomes = refl;
+        bounded = bounded (after peer w (does s e)) (second .1);
+      }
+
+  pub step : (w : World) (m : Move) → may w m ≡ true → Step peer w (after peer w m)
+  step w (does s e) t = acts s e (stepOf (w .station s) e [] 256) (did w s e t)
+  step w (hears s bearers) t = heard w s bearers (w .queue (other s)) refl t
+  step w (misses s) t = missed w s (w .queue (other s)) refl t
+
+  -- ---- scripts
+
+  pub data Steps : World → World → Type 0 where
+    done : {w : World} → Steps w w
+    first : {v w w' : World} → Step peer w v → Steps v w' → Steps w w'
+
+  pub run-on : {w w' : World} → Run peer w → Steps w w' → Run peer w'
+  run-on r done = r
+  run-on r (first x xs) = run-on (next r x) xs
+
+  -- whether each of its moves may be made
+  unfoldable pub playable : World → List Move → Bool
+  unfolding played
+  playable w [] = true
+  playable w (m ∷ ms) = may w m && playable (after peer w m) ms
+
+  pub steps : (w : World) (script : List Move) → playable w script ≡ true → Steps w (played peer w script)
+  unfolding playable played
+  steps w [] t = done
+  steps w (m ∷ ms) t =
+      let both = both-true (may w m) (playable (after peer w m) ms) t in
+      first (step w m (both .0)) (steps (after peer w m) ms (both .1))

@@ -1,0 +1,177 @@
+-- The end of a script: nothing is under way, and both clocks are ticked past every deadline until none is due, by a test that is computed.
+use Prim.Native.Nat.{ℕ, zero, suc, _+_, _≤_}
+use mathlib.Core.Path.{_≡_, refl}
+use mathlib.Core.Bool.{Bool, true, false, not, _&&_, false≢true}
+use mathlib.Core.List.{List, [], _∷_}
+use mathlib.Core.Option.{none, some}
+use borrow.Author.Tests.{eqb-true, leb-true, not-true}
+use native.Mathlib.Omega.{arith}
+use lib.Dec.{leb, eqb}
+use lib.ListN.{getD}
+use Rattle.laws.proofs.Tests.{by-cases, both-true}
+use Rattle.records.specs.declared.Record.{Record}
+use Rattle.table.specs.Events.{message}
+use Rattle.table.specs.Numbers.{blank, ownIs}
+use Rattle.table.specs.Step.{stepOf}
+use Rattle.table.specs.Table.{find, findFrom}
+use Rattle.table.specs.Views.{recordAt, named, dueOf, due, to}
+use Rattle.table.specs.declared.Answer.{Answer}
+use Rattle.table.specs.declared.Entry.{Entry}
+use Rattle.table.specs.declared.Station.{Station}
+use Rattle.pair.specs.Theorem.{Empty, Past, Settled, Still, here, onward, Nine, Settles}
+use Rattle.pair.specs.World.{Side, A, B, Envelope, World, acts, Run, next}
+use Rattle.pair.proofs.Scripts.{does, numbered, after, played, may, did, toBoth, at-side}
+
+-- ---- nothing is under way, and no deadline is past the last time
+
+abbrev pub tick : ℕ → Record
+tick time = numbered 0 time (message 15 0 0 0 0 0 0)
+
+-- the last time that there is
+abbrev pub lastTime : ℕ
+lastTime = 1000000000000
+
+abbrev pub isEmpty : List Envelope → Bool
+isEmpty [] = true
+isEmpty (m ∷ ms) = false
+
+empty : (ms : List Envelope) → isEmpty ms ≡ true → ms ≡ []
+empty [] t = refl
+empty (m ∷ ms) t = absurd (false≢true t)
+
+-- whether every deadline is at most a time
+abbrev pub allBy : ℕ → List Entry → Bool
+allBy time [] = true
+allBy time (r ∷ rs) = leb (r .deadline) time && allBy time rs
+
+by-at : (time : ℕ) (rs : List Entry) → allBy time rs ≡ true → (i : ℕ) → getD rs i blank .deadline ≤ time
+by-at time [] t i = omega arith
+by-at time (r ∷ rs) t zero = leb-true (r .deadline) time (both-true (leb (r .deadline) time) (allBy time rs) t .0)
+by-at time (r ∷ rs) t (suc i) = by-at time rs (both-true (leb (r .deadline) time) (allBy time rs) t .1) i
+
+by-found : (time : ℕ) (s : Station) → allBy time (s .entries) ≡ true → (test : Entry → Bool) (i : ℕ) (rs : List Entry)
+    → recordAt (findFrom test i rs) s .deadline ≤ time
+unfolding findFrom
+by-found time s t test i [] = omega arith
+by-found time s t test i (r ∷ rs) = by-cases (test r) (λ h. rw h (by-at time (s .entries) t i)) (λ h. rw h (by-found time s t test (i + 1) rs))
+
+due-by : (time : ℕ) (s : Station) → allBy time (s .entries) ≡ true → (p i d : ℕ) → due s p i ≡ some d → d ≤ time
+unfolding due named
+due-by time s t p i d timed = go (recordAt (find (ownIs i) s) s) timed (by-found time s t (ownIs i) 0 (s .entries))
+  where
+    go : (r : Entry) → dueOf p r ≡ some d → r .deadline ≤ time → d ≤ time
+    go r timed by =
+        by-cases (leb 1 (r .state) && leb (r .state) 3 && eqb (r .neighbour) p)
+        (λ h. let this : some (r .deadline) ≡ some d = rw h at timed in let same : r .deadline ≡ d = cc in omega (arith, by, same))
+        (λ h. let never : none ≡ some d = rw h at timed in let bad : _≡_ {A = ℕ} 0 1 = cc in absurd (omega arith))
+
+module _ (peer : Side → ℕ) where
+  abbrev pub atTick : World → Side → ℕ → Answer
+  atTick w s time = stepOf (w .station s) (tick time) [] 256
+
+  -- whether nothing is under way from either side, and the last tick is past every deadline
+  abbrev pub isQuiet : World → Side → Bool
+  isQuiet w s = isEmpty (w .queue s) && allBy lastTime (w .station s .entries)
+
+  quiet : (w : World) → toBoth (isQuiet w) ≡ true → Empty peer w × ((s : Side) → Past peer w s lastTime)
+  quiet w t = (
+    λ s. empty (w .queue s) (both-true (isEmpty (w .queue s)) (allBy lastTime (w .station s .entries)) (at-side (isQuiet w) t s) .0),
+    λ s. due-by lastTime (w .station s) (both-true (isEmpty (w .queue s)) (allBy lastTime (w .station s .entries)) (at-side (isQuiet w) t s) .1) (peer s),
+  )
+
+  -- and none is due then
+  abbrev pub isNine : World → Side → Bool
+  isNine w s = eqb (atTick w s lastTime .outcome .reply) 9
+
+  unfoldable pub isSettled : World → Bool
+  unfolding played
+  isSettled w = toBoth (isQuiet w) && toBoth (isNine w)
+
+  pub settled : (w : World) → isSettled w ≡ true → Settled peer w
+  unfolding isSettled
+  settled w t =
+      let parts = both-true (toBoth (isQuiet w)) (toBoth (isNine w)) t in
+      record {
+        empty = quiet w (parts .0) .0;
+        tick = λ s. tick lastTime;
+        kind = λ s. refl;
+        past = quiet w (parts .0) .1;
+        bearers = [];
+        room = 256;
+        none-due = λ s. eqb-true (atTick w s lastTime .outcome .reply) 9 (at-side (isNine w) (parts .1) s);
+      }
+
+  -- ---- ticks until none is due
+
+  abbrev pub ticked : World → Side → ℕ → World
+  ticked w s time = after peer w (does s (tick time))
+
+  abbrev pub mayTick : World → Side → ℕ → Bool
+  mayTick w s time = may peer w (does s (tick time)) && not (to 1 (peer s) (atTick w s time))
+
+  ticks-on : {w v : World} → Still peer w v → (s : Side) (time : ℕ) → mayTick v s time ≡ true → Still peer w (ticked v s time)
+  ticks-on {v = v} still s time t =
+      let parts = both-true (may peer v (does s (tick time))) (not (to 1 (peer s) (atTick v s time))) t in
+      onward still (acts s (tick time) (atTick v s time) (did peer v s (tick time) (parts .0))) (not-true (to 1 (peer s) (atTick v s time)) (parts .1))
+
+  -- the last tick finds none due
+  abbrev pub mayEnd : World → Side → Bool
+  mayEnd w s = mayTick w s lastTime && isNine w s
+
+  nine : {w v w' : World} → Still peer w v → (s : Side) → mayEnd v s ≡ true → Still peer (ticked v s lastTime) w' → Nine peer s lastTime w w'
+  nine {v = v} still s t later =
+      let parts = both-true (mayTick v s lastTime) (isNine v s) t in
+      record {
+        before = v;
+        still = still;
+        event = tick lastTime;
+        answer = atTick v s lastTime;
+        after = ticked v s lastTime;
+        acts = did peer v s (tick lastTime) (both-true (may peer v (does s (tick lastTime))) (not (to 1 (peer s) (atTick v s lastTime))) (parts .0) .0);
+        kind = refl;
+        time = refl;
+        none-due = eqb-true (atTick v s lastTime .outcome .reply) 9 (parts .1);
+        later = later;
+      }
+
+  -- so many ticks, each of a side, and then the last one of each
+  abbrev pub ended : World → List (Side × ℕ) → World
+  ended w [] = ticked (ticked w A lastTime) B lastTime
+  ended w ((s, time) ∷ ts) = ended (ticked w s time) ts
+
+  abbrev pub mayEndAfter : World → List (Side × ℕ) → Bool
+  mayEndAfter w [] = mayEnd w A && mayEnd (ticked w A lastTime) B
+  mayEndAfter w ((s, time) ∷ ts) = mayTick w s time && mayEndAfter (ticked w s time) ts
+
+  -- So both clocks are ticked until none is due.
+  each-nine : {w v : World} → Still peer w v → (ts : List (Side × ℕ)) → mayEndAfter v ts ≡ true → (s : Side) → Nine peer s lastTime w (ended v ts)
+  each-nine {v = v} still [] t A =
+      let parts = both-true (mayEnd v A) (mayEnd (ticked v A lastTime) B) t in
+      nine still A (parts .0) (ticks-on here B lastTime (both-true (mayTick (ticked v A lastTime) B lastTime) (isNine (ticked v A lastTime) B) (parts .1) .0))
+  each-nine {v = v} still [] t B =
+      let parts = both-true (mayEnd v A) (mayEnd (ticked v A lastTime) B) t in
+      nine (ticks-on still A lastTime (both-true (mayTick v A lastTime) (isNine v A) (parts .0) .0)) B (parts .1) here
+  each-nine {v = v} still ((s, time) ∷ ts) t r =
+      let parts = both-true (mayTick v s time) (mayEndAfter (ticked v s time) ts) t in
+      each-nine (ticks-on still s time (parts .0)) ts (parts .1) r
+
+  abbrev pub maySettle : World → List (Side × ℕ) → Bool
+  maySettle w ts = toBoth (isQuiet w) && mayEndAfter w ts
+
+  pub settles : (w : World) (ts : List (Side × ℕ)) → maySettle w ts ≡ true → Settles peer w (ended w ts)
+  settles w ts t =
+      let parts = both-true (toBoth (isQuiet w)) (mayEndAfter w ts) t in
+      record {
+        empty = quiet w (parts .0) .0;
+        time = λ s. lastTime;
+        past = quiet w (parts .0) .1;
+        nine = each-nine here ts (parts .1);
+      }
+
+  -- What settles is a run still.
+  still-run : {w w' : World} → Run peer w → Still peer w w' → Run peer w'
+  still-run r here = r
+  still-run r (onward still x e) = next (still-run r still) x
+
+  pub settled-run : {w w' : World} → Run peer w → Settles peer w w' → Run peer w'
+  settled-run r x = let last = x .nine A in still-run (next (still-run r (last .still)) (acts A (last .event) (last .answer) (last .acts))) (last .later)
