@@ -116,14 +116,17 @@ atSource p x a taken n h k =
       endings = cond (someOut (recordOf n (out x p) h) && not (someOut (recordOf n (out (a .station) p) h))) (ending a ∷ k .endings) (k .endings);
     }
 
--- A handover after its target answered an event: its request was taken, and acknowledged or refused; "kind 11 is taken on the held
--- record" that was made for it.
+-- "The target saw the UE arrive": kind 11 was taken on the held record that was made for the handover.
+abbrev pub arrivesFor : ℕ → Station → Record → Answer → (ℕ → ℕ) → ℕ → Bool
+arrivesFor p y e a fixed h = eqb (e .kind) 11 && eqb (a .outcome .reply) 0 && someHeld (held y p (e .new .0)) && eqb (fixed (e .new .0)) h
+
+-- A handover after its target answered an event: its request was taken, and acknowledged or refused; its UE arrived.
 abbrev pub atTarget : ℕ → Station → Record → Answer → Option Envelope → (ℕ → ℕ) → ℕ → Handover → Handover
 atTarget p y e a taken fixed h k =
     record {
       asked = k .asked;
       answer = cond (took 1 h taken && to 2 p a) (Fixed (sent a .new .0) (sent a .first)) (cond (took 1 h taken && to 3 p a) Refused (k .answer));
-      arrived = k .arrived || (eqb (e .kind) 11 && someHeld (held y p (e .new .0)) && eqb (fixed (e .new .0)) h);
+      arrived = k .arrived || arrivesFor p y e a fixed h;
       came = k .came;
       endings = k .endings;
     }
