@@ -181,6 +181,8 @@ module _ {s : Side} {d : Direction} {e : Record} {a : Answer} {taken : Option En
             arrived = arrived-stays (m .tag) (r .arrived);
             set = r .set;
             answered = fixed-stays (m .tag) (newOf m) (r .set) (r .answered);
+            receiver = r .receiver;
+            word = r .word;
           }
 
       sends : isPosted (d .back) a ≡ true → kindOf posting ≡ 5 → Released after posting
@@ -192,6 +194,8 @@ module _ {s : Side} {d : Direction} {e : Record} {a : Answer} {taken : Option En
             arrived = ap (λ h. after .handovers h .arrived) (r .0) ∙ r .3;
             set = r .1;
             answered = ap (λ h. after .handovers h .answer) (r .0) ∙ fixed-stays (d .fixedFor (newOf posting)) (newOf posting) (r .1) (granted .1);
+            receiver = d .back;
+            word = arriving (x .step .target (d .back)) (posted-to (d .back) a 5 posted five) .word;
           }
 
   -- A release stands behind the acknowledge of its record: both are of the same handover.

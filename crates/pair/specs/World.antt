@@ -9,8 +9,6 @@ use Rattle.records.specs.Record.{InRange}
 use Rattle.records.specs.declared.Record.{Record}
 use Rattle.table.specs.declared.Answer.{Answer}
 use Rattle.table.specs.declared.Station.{Station}
-use Rattle.table.specs.Events.{message}
-use Rattle.table.specs.Fields.{limit}
 use Rattle.table.specs.Step.{stepOf, bornOf}
 use Rattle.table.specs.Views.{Outgoing, NotOut, Preparing, Prepared, someOut, someHeld, out, held, sent, ending, to, issued}
 
@@ -170,18 +168,31 @@ module _ (peer : Side → ℕ) where
             (put (other s) (λ h. atTarget (peer s) (w .station s) e a taken (w .fixedFor (other s)) h (w .handovers (other s) h)) (w .handovers));
       }
 
--- "unaltered": a request reaches the other station with the same Old ID (its bearers and their count, and so all else, are open); of any
--- other kind the fields that the kind uses are as sent, the others zero, and byte 1 has the sender's number.
-abbrev pub used : Record → ℕ → ℕ → ℕ
-used m field value = cond (eqb (limit (m .kind) field) 0) 0 value
-
-abbrev pub delivered : ℕ → Record → Record
-delivered p m =
-    message (m .kind) p (used m 1 (m .old .0)) (used m 2 (m .new .0)) (used m 3 (m .first)) (used m 4 (m .second)) (used m 5 (m .reason))
+-- "It arrives unaltered if it reaches the peer with the same Old ID" (its bearers are left open here, and so is all else); "in every other
+-- kind all fields arrive as sent, with the sender's neighbour number in byte 1".
+abbrev pub asSent : ℕ → Record → Record
+asSent p m =
+    record {
+      kind = m .kind;
+      neighbour = p;
+      old = m .old;
+      new = m .new;
+      first = m .first;
+      second = m .second;
+      reason = m .reason;
+      byte11 = m .byte11;
+      number = m .number;
+      time = m .time;
+      erab = m .erab;
+      qci = m .qci;
+      priority = m .priority;
+      flags = m .flags;
+      bytes28 = m .bytes28;
+    }
 
 pub data Carries (p : ℕ) (m : Record) (e : Record) : Type 0 where
   request : m .kind ≡ 1 → e .kind ≡ 1 → e .neighbour ≡ p → e .old .0 ≡ m .old .0 → Carries p m e
-  plain : (m .kind ≡ 1 → ⊥) → e ≡ delivered p m → Carries p m e
+  plain : (m .kind ≡ 1 → ⊥) → e ≡ asSent p m → Carries p m e
 
 -- "A message event (kinds 1 to 8) with that number is taken from the queue and from nowhere else. All other events come at any time";
 -- "in order, at most once": the oldest message is taken, and then it is gone.

@@ -201,6 +201,7 @@ module _ (s : Station) (sound : Sound s) (e : Record) (a : Answer) (after : Soun
           by-cases (eqb (x .neighbour) p)
           (λ u. arrives (record {
             release = rw (said, u);
+            word = rw (said, eqb-true (x .neighbour) p u);
             done = done;
             kind = eleven;
             new = rw said (sym new);
