@@ -86,10 +86,10 @@ module _ {s : Side} {d : Direction} {e : Record} {a : Answer} {taken : Option En
   arrivesNow h = took 5 h taken && isPrepared (recordOf (d .numbers) (outgoing d) h)
 
   -- The release of a handover finds its record prepared: it has both its IDs, and so moves it.
-  takes-it : (h n set : ℕ) (t : Taken (d .towards) e (d .answers) taken rest) → kindOf (t .first) ≡ 5 → Released d (t .first) → t .first .tag ≡ h
+  takes-it : (h n set : ℕ) (t : Taken (d .towards) e (d .answers) taken rest) → Released d (t .first) → t .first .tag ≡ h
       → d .numbers .issueOf (d .numbers .numberOf h) ≡ h → outgoing d (d .numbers .numberOf h) ≡ Prepared n set
       → (outgoing (after x inv) (d .numbers .numberOf h) ≡ NotOut) × (ending a ≡ 3)
-  takes-it h n set t kind r tag latest was =
+  takes-it h n set t r tag latest was =
       let here : d .handovers h .answer ≡ Fixed n set = ap (λ k. d .handovers k .answer) (sym latest) ∙ inv .prepared (d .numbers .numberOf h) n set was in
       let new : newOf (t .first) ≡ n = fixed-same (sym (r .answered) ∙ ap (λ k. d .handovers k .answer) tag ∙ here) .0 in
       let old : oldOf (t .first) ≡ d .numbers .numberOf h = sym (r .numbered) ∙ ap (d .numbers .numberOf) tag in
@@ -102,7 +102,7 @@ module _ {s : Side} {d : Direction} {e : Record} {a : Answer} {taken : Option En
       let r = first-of (λ m. kindOf m ≡ 5 → Released d m) (got .0) (inv .releases) (got .1) in
       let ready = prepared-is (recordOf (d .numbers) (outgoing d) h) (tests .1) in
       let there = record-there (d .numbers) (outgoing d) h (ap someOut (ready .2)) in
-      let now = takes-it h (ready .0) (ready .1) (got .0) (got .1) r (got .2) (there .0) (sym (record-is (d .numbers) (outgoing d) h (there .0)) ∙ ready .2) in
+      let now = takes-it h (ready .0) (ready .1) (got .0) r (got .2) (there .0) (sym (record-is (d .numbers) (outgoing d) h (there .0)) ∙ ready .2) in
       (gone x inv h (going (there .0) (there .1) (now .0)) .now ∙ ap (λ z. z ∷ []) (now .1), ap (λ k. d .handovers k .arrived) (sym (got .2)) ∙ r .arrived)
     where
       going : d .numbers .issueOf (d .numbers .numberOf h) ≡ h → someOut (outgoing d (d .numbers .numberOf h)) ≡ true
