@@ -1,15 +1,15 @@
 -- Two fresh stations with nothing under way and no history: no record is there, and nothing is told, so each clause speaks of nothing.
-use Prim.Native.Nat.{ℕ, _≤_}
-use mathlib.Core.Path.{_≡_, refl, sym, ap, _∙_}
-use mathlib.Core.Bool.{true, false, false≢true}
-use mathlib.Core.List.{[], _∷_, nil≢cons}
-use mathlib.Core.Logic.{inl, inr, ⊎-elim, _⊎_}
+use Prim.Native.Nat.{ℕ}
+use mathlib.Core.Path.{_≡_, refl, ap}
+use mathlib.Core.Bool.{true, false≢true}
+use mathlib.Core.List.{nil≢cons}
+use mathlib.Core.Logic.{inl, inr, _⊎_}
 use native.Mathlib.Omega.{arith}
 use Rattle.table.specs.declared.Station.{Station}
 use Rattle.table.specs.Reached.{Reached, born}
 use Rattle.table.specs.Views.{count, times, ids, someOut, someHeld, out, held}
 use Rattle.table.proofs.Interface.{fresh, laws}
-use Rattle.pair.specs.World.{Side, nothing, other, start, Fresh, Silent, Fixed}
+use Rattle.pair.specs.World.{Side, nothing, other, start, Fresh}
 use Rattle.pair.proofs.Lists.{no-pair}
 use Rattle.pair.proofs.Directions.{direction}
 use Rattle.pair.proofs.Invariant.{Invariant}

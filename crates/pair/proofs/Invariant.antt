@@ -6,6 +6,7 @@ use mathlib.Core.Bool.{Bool, true, _||_}
 use mathlib.Core.List.{[], _∷_}
 use mathlib.Core.Logic.{_⊎_, _↔_}
 use lib.Dec.{eqb}
+use Rattle.table.specs.Events.{message}
 use Rattle.table.specs.Views.{last, Outgoing, Prepared, Incoming, Held, someOut, out, held, isOtherEnding}
 use Rattle.pair.specs.World.{Side, Answered, Silent, Refused, Fixed, untold, Envelope, recordOf, All}
 use Rattle.pair.proofs.Lists.{Pairs}
@@ -52,12 +53,14 @@ pub record Replied (s : Side) (d : Direction) (m : Envelope) (answer : Answered)
   pub stamped : m .stamp s < m .tag + 2000
   pub answered : d .handovers (m .tag) .answer ≡ answer
 
--- a release: its handover had its Old ID, the UE arrived, and the target had acknowledged its New ID
+-- a release: its handover had its Old ID, the UE arrived, and the target had acknowledged its New ID; it says nothing else
 pub record Released (d : Direction) (m : Envelope) : Type 0 where
   pub numbered : d .numbers .numberOf (m .tag) ≡ oldOf m
   pub arrived : d .handovers (m .tag) .arrived ≡ true
   pub set : ℕ
   pub answered : d .handovers (m .tag) .answer ≡ Fixed (newOf m) set
+  pub receiver : ℕ
+  pub word : m .message ≡ message 5 receiver (oldOf m) (newOf m) 0 0 0
 
 -- ---- the clauses
 

@@ -29,7 +29,7 @@ module _ (s : Side) (d : Direction) (requests answers : List Envelope) (fewer-re
   replied m answer was = record { named = was .named; latest = was .latest; stamped = was .stamped; answered = was .answered }
 
   released : (m : Envelope) → Released d m → Released after m
-  released m was = record { numbered = was .numbered; arrived = was .arrived; set = was .set; answered = was .answered }
+  released m was = record { numbered = was .numbered; arrived = was .arrived; set = was .set; answered = was .answered; receiver = was .receiver; word = was .word }
 
   in-requests : {P : Envelope → Type 0} → All P (d .requests) → All P requests
   in-requests = all-fewer requests (d .requests) fewer-requests

@@ -17,7 +17,7 @@ use Rattle.pair.specs.World.{Side, Numbers, Silent, Fixed, untold, Envel
 use Rattle.pair.proofs.Directions.{Direction, sourceAfter, SourceStep}
 use Rattle.pair.proofs.Invariant.{kindOf, oldOf, newOf, setOf, outgoing, Invariant}
 use Rattle.pair.proofs.Ledger.{not-again, in-use}
-use Rattle.pair.proofs.Taking.{Taken, taken-of, carries-acknowledge}
+use Rattle.pair.proofs.Taking.{Taken, taken-of, carries-fields}
 
 pub prepared-same : {n set n' set' : ℕ} → Prepared n set ≡ Prepared n' set' → (n ≡ n') × (set ≡ set')
 prepared-same same = (cc, cc)
@@ -112,7 +112,7 @@ module _ {s : Side} {d : Direction} {e : Record} {a : Answer} {taken : Option En
           let same = eqb-true i (e .old .0) t in
           let made : outgoing after i ≡ Prepared (e .new .0) (e .first) = rw same (l .after) in
           let got = taken-of 2 (d .towards) e (d .answers) taken rest (omega arith) (omega arith) (l .kind) (l .neighbour) (x .comes) in
-          let fields = carries-acknowledge (d .towards) (got .first .message) e (got .carries) (got .kind ∙ l .kind) in
+          let fields = carries-fields (d .towards) (got .first .message) e (got .carries) (λ one. omega (arith, got .kind ∙ l .kind)) in
           let says = prepared-same (sym made ∙ is) in
           inr (record {
             took = got;

@@ -19,7 +19,7 @@ use Rattle.pair.specs.World.{Side, Envelope, Fixed, Refused, isPrepared,
 use Rattle.pair.proofs.Directions.{Direction, SourceStep}
 use Rattle.pair.proofs.Invariant.{kindOf, oldOf, newOf, outgoing, isEnding, Replied, Released, Ended, Moved, Came, Failed, Invariant}
 use Rattle.pair.proofs.Ledger.{number-kept}
-use Rattle.pair.proofs.Taking.{Taken, taken-of, took-of, first-of, carries-failure, carries-release}
+use Rattle.pair.proofs.Taking.{Taken, taken-of, took-of, first-of, carries-fields, carries-release}
 use Rattle.pair.proofs.SourceFacts.{fixed-same, after, in-table, asked-told, goes, gone, stays, ended-stays, record-there, record-is}
 use Rattle.pair.proofs.SourceQueues.{start-latest}
 
@@ -86,14 +86,14 @@ module _ {s : Side} {d : Direction} {e : Record} {a : Answer} {taken : Option En
   arrivesNow h = took 5 h taken && isPrepared (recordOf (d .numbers) (outgoing d) h)
 
   -- The release of a handover finds its record prepared: it has both its IDs, and so moves it.
-  takes-it : (h n set : ℕ) (t : Taken (d .towards) e (d .answers) taken rest) → kindOf (t .first) ≡ 5 → Released d (t .first) → t .first .tag ≡ h
+  takes-it : (h n set : ℕ) (t : Taken (d .towards) e (d .answers) taken rest) → Released d (t .first) → t .first .tag ≡ h
       → d .numbers .issueOf (d .numbers .numberOf h) ≡ h → outgoing d (d .numbers .numberOf h) ≡ Prepared n set
       → (outgoing (after x inv) (d .numbers .numberOf h) ≡ NotOut) × (ending a ≡ 3)
-  takes-it h n set t kind r tag latest was =
+  takes-it h n set t r tag latest was =
       let here : d .handovers h .answer ≡ Fixed n set = ap (λ k. d .handovers k .answer) (sym latest) ∙ inv .prepared (d .numbers .numberOf h) n set was in
       let new : newOf (t .first) ≡ n = fixed-same (sym (r .answered) ∙ ap (λ k. d .handovers k .answer) tag ∙ here) .0 in
       let old : oldOf (t .first) ≡ d .numbers .numberOf h = sym (r .numbered) ∙ ap (d .numbers .numberOf) tag in
-      x .step .takes (d .towards) (d .numbers .numberOf h) n set (rw (old, new) at (carries-release (d .towards) (t .first .message) e (t .carries) kind)) was
+      x .step .takes (d .towards) (d .numbers .numberOf h) n set (rw (old, new) at (carries-release (d .towards) (t .first .message) e (t .carries) (r .receiver) (oldOf (t .first)) (newOf (t .first)) (r .word))) was
 
   moves : (h : ℕ) → arrivesNow h ≡ true → (after x inv .handovers h .endings ≡ 3 ∷ []) × (d .handovers h .arrived ≡ true)
   moves h t =
@@ -102,7 +102,7 @@ module _ {s : Side} {d : Direction} {e : Record} {a : Answer} {taken : Option En
       let r = first-of (λ m. kindOf m ≡ 5 → Released d m) (got .0) (inv .releases) (got .1) in
       let ready = prepared-is (recordOf (d .numbers) (outgoing d) h) (tests .1) in
       let there = record-there (d .numbers) (outgoing d) h (ap someOut (ready .2)) in
-      let now = takes-it h (ready .0) (ready .1) (got .0) (got .1) r (got .2) (there .0) (sym (record-is (d .numbers) (outgoing d) h (there .0)) ∙ ready .2) in
+      let now = takes-it h (ready .0) (ready .1) (got .0) r (got .2) (there .0) (sym (record-is (d .numbers) (outgoing d) h (there .0)) ∙ ready .2) in
       (gone x inv h (going (there .0) (there .1) (now .0)) .now ∙ ap (λ z. z ∷ []) (now .1), ap (λ k. d .handovers k .arrived) (sym (got .2)) ∙ r .arrived)
     where
       going : d .numbers .issueOf (d .numbers .numberOf h) ≡ h → someOut (outgoing d (d .numbers .numberOf h)) ≡ true
@@ -121,9 +121,9 @@ module _ {s : Side} {d : Direction} {e : Record} {a : Answer} {taken : Option En
       of (otherwise t) = absurd (false≢true (rw three at t))
       of (moved set is kind neighbour old was) =
           let got = taken-of 5 (d .towards) e (d .answers) taken rest (omega arith) (omega arith) kind neighbour (x .comes) in
-          let event = carries-release (d .towards) (got .first .message) e (got .carries) (got .kind ∙ kind) in
-          let same : oldOf (got .first) ≡ d .numbers .numberOf h = sym (ap (λ r. r .old .0) event) ∙ old in
-          let new : newOf (got .first) ≡ e .new .0 = sym (ap (λ r. r .new .0) event) in
+          let fields = carries-fields (d .towards) (got .first .message) e (got .carries) (λ one. omega (arith, got .kind ∙ kind)) in
+          let same : oldOf (got .first) ≡ d .numbers .numberOf h = sym (fields .0) ∙ old in
+          let new : newOf (got .first) ≡ e .new .0 = sym (fields .1) in
           let tag = first-of (λ m. kindOf m ≡ 5 → (k : ℕ) → outgoing d (oldOf m) ≡ Prepared (newOf m) k → m .tag ≡ d .numbers .issueOf (oldOf m)) got (inv .release-prepared) (got .kind ∙ kind) set (rw (same, new) was) in
           rw (
             got .is,
@@ -162,5 +162,5 @@ module _ {s : Side} {d : Direction} {e : Record} {a : Answer} {taken : Option En
       of latest one (failed is kind neighbour old) =
           let got = taken-of 3 (d .towards) e (d .answers) taken rest (omega arith) (omega arith) kind neighbour (x .comes) in
           let r = first-of (λ m. kindOf m ≡ 3 → Replied s d m Refused) got (inv .failures) (got .kind ∙ kind) in
-          let same : oldOf (got .first) ≡ d .numbers .numberOf h = sym (carries-failure (d .towards) (got .first .message) e (got .carries) (got .kind ∙ kind)) ∙ old in
+          let same : oldOf (got .first) ≡ d .numbers .numberOf h = sym (carries-fields (d .towards) (got .first .message) e (got .carries) (λ one. omega (arith, got .kind ∙ kind)) .0) ∙ old in
           ap (λ k. d .handovers k .answer) (sym latest ∙ ap (d .numbers .issueOf) (sym same) ∙ r .latest) ∙ r .answered

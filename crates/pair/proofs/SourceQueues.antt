@@ -102,7 +102,14 @@ module _ {s : Side} {d : Direction} {e : Record} {a : Answer} {taken : Option En
   release-kept : (m : Envelope) → Released d m → Released (after x inv) m
   release-kept m was =
       let past = answer-told x inv (m .tag) (newOf m) (was .set) (was .answered) in
-      record { numbered = number-kept (d .numbers) (issued a) (m .tag) past ∙ was .numbered; arrived = was .arrived; set = was .set; answered = was .answered }
+      record {
+        numbered = number-kept (d .numbers) (issued a) (m .tag) past ∙ was .numbered;
+        arrived = was .arrived;
+        set = was .set;
+        answered = was .answered;
+        receiver = was .receiver;
+        word = was .word;
+      }
 
   remain : {P : Envelope → Type 0} → All P (d .answers) → All P rest
   remain = left (d .towards) e (d .answers) taken rest (x .comes)

@@ -11,7 +11,7 @@ use lib.Dec.{eqb}
 use Rattle.laws.proofs.Tests.{both-true}
 use Rattle.records.specs.declared.Record.{Record}
 use Rattle.table.specs.Events.{message}
-use Rattle.pair.specs.World.{Envelope, took, delivered, Carries, request, plain, Comes, own, take, All}
+use Rattle.pair.specs.World.{Envelope, took, asSent, Carries, request, plain, Comes, own, take, All}
 use Rattle.pair.proofs.Lists.{Pairs, all-any, all-map, all-head, all-tail, pairs-head, pairs-tail}
 
 -- ---- what a message brings
@@ -21,7 +21,7 @@ module _ (p : ℕ) (m e : Record) where
   carries-kind (request was is neighbour old) = is ∙ sym was
   carries-kind (plain other same) = ap (λ r. r .kind) same
 
-  as-sent : Carries p m e → (m .kind ≡ 1 → ⊥) → e ≡ delivered p m
+  as-sent : Carries p m e → (m .kind ≡ 1 → ⊥) → e ≡ asSent p m
   as-sent (request was is neighbour old) other = absurd (other was)
   as-sent (plain other same) apart = same
 
@@ -29,16 +29,13 @@ module _ (p : ℕ) (m e : Record) where
   carries-request (request was is neighbour old) kind = old
   carries-request (plain other same) kind = absurd (other kind)
 
-  pub carries-acknowledge : Carries p m e → m .kind ≡ 2 → (e .old .0 ≡ m .old .0) × (e .new .0 ≡ m .new .0) × (e .first ≡ m .first)
-  carries-acknowledge c kind =
-      let same = rw kind at (as-sent c (λ one. omega arith)) in
+  pub carries-fields : Carries p m e → (m .kind ≡ 1 → ⊥) → (e .old .0 ≡ m .old .0) × (e .new .0 ≡ m .new .0) × (e .first ≡ m .first)
+  carries-fields c other =
+      let same = as-sent c other in
       (ap (λ r. r .old .0) same, ap (λ r. r .new .0) same, ap (λ r. r .first) same)
 
-  pub carries-failure : Carries p m e → m .kind ≡ 3 → e .old .0 ≡ m .old .0
-  carries-failure c kind = ap (λ r. r .old .0) (rw kind at (as-sent c (λ one. omega arith)))
-
-  pub carries-release : Carries p m e → m .kind ≡ 5 → e ≡ message 5 p (m .old .0) (m .new .0) 0 0 0
-  carries-release c kind = rw kind at (as-sent c (λ one. omega arith))
+  pub carries-release : Carries p m e → (q old new : ℕ) → m ≡ message 5 q old new 0 0 0 → e ≡ message 5 p old new 0 0 0
+  carries-release c q old new word = as-sent c (λ one. omega (arith, ap (λ r. r .kind) word)) ∙ ap (asSent p) word
 
 -- ---- the message taken
 

@@ -13,7 +13,7 @@ use Rattle.records.specs.declared.Record.{Record}
 use Rattle.table.proofs.Interface.{to-means}
 use Rattle.table.specs.declared.Answer.{Answer}
 use Rattle.table.specs.Views.{Prepared, Incoming, NotHeld, Held, held, someHeld, sent, to}
-use Rattle.pair.specs.World.{Side, Answered, Refused, Fixed, Envelope, took, tagOf, belongs}
+use Rattle.pair.specs.World.{Side, Answered, Refused, Fixed, Envelope, took, tagOf, arrivesFor, belongs}
 use Rattle.pair.proofs.Posting.{letter, isPosted, posted-to, all-posted, pairs-posted}
 use Rattle.pair.proofs.Taking.{took-of, left, left-pairs, left-behind}
 use Rattle.pair.proofs.Directions.{Direction, targetAfter, TargetStep}
@@ -46,11 +46,10 @@ module _ {s : Side} {d : Direction} {e : Record} {a : Answer} {taken : Option En
   arrived-stays h t = rw t
 
   -- The record on which a UE arrives is held for a handover, which has an answer.
-  arrives-for : (h : ℕ) → (eqb (e .kind) 11 && someHeld (reserved d (e .new .0)) && eqb (d .fixedFor (e .new .0)) h) ≡ true
-      → (set : ℕ) × (d .handovers h .answer ≡ Fixed (e .new .0) set)
+  arrives-for : (h : ℕ) → arrivesFor (d .back) (d .target) e a (d .fixedFor) h ≡ true → (set : ℕ) × (d .handovers h .answer ≡ Fixed (e .new .0) set)
   arrives-for h t =
-      let both = both-true (eqb (e .kind) 11 && someHeld (reserved d (e .new .0))) (eqb (d .fixedFor (e .new .0)) h) t in
-      let there = held-ids (reserved d (e .new .0)) (both-true (eqb (e .kind) 11) (someHeld (reserved d (e .new .0))) (both .0) .1) in
+      let both = both-true (eqb (e .kind) 11 && eqb (a .outcome .reply) 0 && someHeld (reserved d (e .new .0))) (eqb (d .fixedFor (e .new .0)) h) t in
+      let there = held-ids (reserved d (e .new .0)) (both-true (eqb (e .kind) 11 && eqb (a .outcome .reply) 0) (someHeld (reserved d (e .new .0))) (both .0) .1) in
       let same : d .fixedFor (e .new .0) ≡ h = eqb-true (d .fixedFor (e .new .0)) h (both .1) in
       (there .1, ap (λ k. d .handovers k .answer) (sym same) ∙ i .held (e .new .0) (there .0) (there .1) (there .2) .1)
 
@@ -63,9 +62,9 @@ module _ {s : Side} {d : Direction} {e : Record} {a : Answer} {taken : Option En
       untold-silent : {n set : ℕ} → d .handovers h .answer ≡ Fixed n set → ⊥
       untold-silent fixed = let told = i .new h above in let bad : _≡_ {A = ℕ} 0 1 = cc in omega arith
 
-      no-arrival : (eqb (e .kind) 11 && someHeld (reserved d (e .new .0)) && eqb (d .fixedFor (e .new .0)) h) ≡ false
+      no-arrival : arrivesFor (d .back) (d .target) e a (d .fixedFor) h ≡ false
       no-arrival =
-          by-cases (eqb (e .kind) 11 && someHeld (reserved d (e .new .0)) && eqb (d .fixedFor (e .new .0)) h)
+          by-cases (arrivesFor (d .back) (d .target) e a (d .fixedFor) h)
           (λ t. absurd (untold-silent (arrives-for h t .1)))
           (λ t. t)
 
@@ -169,7 +168,7 @@ module _ {s : Side} {d : Direction} {e : Record} {a : Answer} {taken : Option En
         release-belongs issue taken (d .fixedFor) (sent a) five,
         g .admitted,
         ap (reserved d) (sym (g .new)) ∙ g .before,
-        by-cases (d .handovers (d .fixedFor (newOf posting)) .arrived) (λ t. rw t) (λ t. rw (t, eq-eqb (e .kind) 11 (g .kind), g .before, same)),
+        by-cases (d .handovers (d .fixedFor (newOf posting)) .arrived) (λ t. rw t) (λ t. rw (t, eq-eqb (e .kind) 11 (g .kind), eq-eqb (a .outcome .reply) 0 (g .done), g .before, same)),
       )
 
   releases-kept : Releases s after
@@ -182,6 +181,8 @@ module _ {s : Side} {d : Direction} {e : Record} {a : Answer} {taken : Option En
             arrived = arrived-stays (m .tag) (r .arrived);
             set = r .set;
             answered = fixed-stays (m .tag) (newOf m) (r .set) (r .answered);
+            receiver = r .receiver;
+            word = r .word;
           }
 
       sends : isPosted (d .back) a ≡ true → kindOf posting ≡ 5 → Released after posting
@@ -193,6 +194,8 @@ module _ {s : Side} {d : Direction} {e : Record} {a : Answer} {taken : Option En
             arrived = ap (λ h. after .handovers h .arrived) (r .0) ∙ r .3;
             set = r .1;
             answered = ap (λ h. after .handovers h .answer) (r .0) ∙ fixed-stays (d .fixedFor (newOf posting)) (newOf posting) (r .1) (granted .1);
+            receiver = d .back;
+            word = arriving (x .step .target (d .back)) (posted-to (d .back) a 5 posted five) .word;
           }
 
   -- A release stands behind the acknowledge of its record: both are of the same handover.

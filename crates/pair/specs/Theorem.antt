@@ -9,10 +9,10 @@ use Rattle.records.specs.declared.Record.{Record}
 use Rattle.table.specs.declared.Answer.{Answer}
 use Rattle.table.specs.Step.{stepOf}
 use Rattle.table.specs.Views.{NotOut, Prepared, NotHeld, out, held, due, to, isOtherEnding}
-use Rattle.pair.specs.World.{Side, A, Handover, Fixed, World, Acts, Step, acts, loses, Run}
+use Rattle.pair.specs.World.{Side, Handover, Fixed, World, Acts, Step, acts, loses, Run}
 
--- Each handover that was asked for "has one ending at the source: moved if and only if the target saw the UE arrive and its release
--- came while the source stood prepared"; if the UE arrived and the release did not so come, it is cancelled, overtime, returned or reset.
+-- A handover has one ending "at the source": moved if and only if "the target saw the UE arrive" and its release "came while the source
+-- stood prepared"; if the UE arrived and its release did not so come, then cancelled, overtime, returned or reset.
 pub record EndsOnce (k : Handover) : Type 0 where
   pub end : ℕ
   pub one : k .endings ≡ end ∷ []
@@ -20,7 +20,7 @@ pub record EndsOnce (k : Handover) : Type 0 where
   pub else : k .arrived ≡ true → k .came ≡ false → isOtherEnding end ≡ true
 
 module _ (peer : Side → ℕ) where
-  -- "A prepared handover carries the number and set the target fixed for that very request."
+  -- "A prepared handover carries" the New ID and the admitted set that the target "fixed for that very request": the source's record does.
   abbrev pub AsFixed : World → Side → Type 0
   AsFixed w s =
       (i number set : ℕ) → out (w .station s) (peer s) i ≡ Prepared number set
@@ -41,7 +41,7 @@ module _ (peer : Side → ℕ) where
   abbrev pub Past : World → Side → ℕ → Type 0
   Past w s t = (i d : ℕ) → due (w .station s) (peer s) i ≡ some d → d ≤ t
 
-  -- Steps in which neither station starts a handover towards the other.
+  -- Steps in which neither station starts a handover towards the other; all else may happen in them.
   abbrev pub starts : {w w' : World} → Step peer w w' → Bool
   starts (acts s e a x) = to 1 (peer s) a
   starts (loses s x) = false

@@ -9,8 +9,6 @@ use Rattle.records.specs.Record.{InRange}
 use Rattle.records.specs.declared.Record.{Record}
 use Rattle.table.specs.declared.Answer.{Answer}
 use Rattle.table.specs.declared.Station.{Station}
-use Rattle.table.specs.Events.{message}
-use Rattle.table.specs.Fields.{limit}
 use Rattle.table.specs.Step.{stepOf, bornOf}
 use Rattle.table.specs.Views.{Outgoing, NotOut, Preparing, Prepared, someOut, someHeld, out, held, sent, ending, to, issued}
 
@@ -46,9 +44,9 @@ pub data Answered : Type 0 where
   Refused : Answered
   Fixed : (number set : ℕ) → Answered
 
--- "A handover": a start towards the other station that was done. Its name is the number of the issue that gave its Old ID.
--- Whether it was asked for; what the target answered to that very request; whether "the target saw the UE arrive"; whether its
--- release "came while the source stood prepared"; "its endings at the source", the last first.
+-- "A handover" is a start towards the other station that was done; its name is the number of the issue that gave its Old ID. Whether it was
+-- asked for; what the target answered to "that very request"; whether "the target saw the UE arrive"; whether its release "came while
+-- the source stood prepared"; and its endings "at the source", the last first: those of the steps in which its record left the table.
 pub record Handover : Type 0 where
   pub asked : Bool
   pub answer : Answered
@@ -59,7 +57,8 @@ pub record Handover : Type 0 where
 abbrev pub untold : Handover
 untold = record { asked = false; answer = Silent; arrived = false; came = false; endings = [] }
 
--- "A message under way": the handover it belongs to, 0 if to none, and how many own IDs each side had issued when it was sent.
+-- A message "under way": after the step that sent it, until the step that takes or loses it. With it the handover to which it belongs, 0
+-- if to none, and how many own IDs each side had issued when it was sent.
 pub record Envelope : Type 0 where
   pub message : Record
   pub tag : ℕ
@@ -116,14 +115,17 @@ atSource p x a taken n h k =
       endings = cond (someOut (recordOf n (out x p) h) && not (someOut (recordOf n (out (a .station) p) h))) (ending a ∷ k .endings) (k .endings);
     }
 
--- A handover after its target answered an event: its request was taken, and acknowledged or refused; "kind 11 is taken on the held
--- record" that was made for it.
+-- "The target saw the UE arrive": kind 11 was taken on the held record that was made for the handover.
+abbrev pub arrivesFor : ℕ → Station → Record → Answer → (ℕ → ℕ) → ℕ → Bool
+arrivesFor p y e a fixed h = eqb (e .kind) 11 && eqb (a .outcome .reply) 0 && someHeld (held y p (e .new .0)) && eqb (fixed (e .new .0)) h
+
+-- A handover after its target answered an event: its request was taken, and acknowledged or refused; its UE arrived.
 abbrev pub atTarget : ℕ → Station → Record → Answer → Option Envelope → (ℕ → ℕ) → ℕ → Handover → Handover
 atTarget p y e a taken fixed h k =
     record {
       asked = k .asked;
       answer = cond (took 1 h taken && to 2 p a) (Fixed (sent a .new .0) (sent a .first)) (cond (took 1 h taken && to 3 p a) Refused (k .answer));
-      arrived = k .arrived || (eqb (e .kind) 11 && someHeld (held y p (e .new .0)) && eqb (fixed (e .new .0)) h);
+      arrived = k .arrived || arrivesFor p y e a fixed h;
       came = k .came;
       endings = k .endings;
     }
@@ -139,12 +141,12 @@ belongs issue taken fixed m =
     cond (eqb (m .kind) 1) issue
     (cond (eqb (m .kind) 2 || eqb (m .kind) 3) (tagOf taken) (cond (eqb (m .kind) 5) (fixed (m .new .0)) 0))
 
--- What is put under way: a message to the other station; "kind 20 goes to the MME and enters no queue".
+-- What is put under way: a message to the other station. Kind 20 goes to the MME, and is not.
 abbrev pub posted : ℕ → Answer → ℕ → (Side → ℕ) → List Envelope
 posted p a tag stamp =
     cond (leb 1 (sent a .kind) && leb (sent a .kind) 8 && eqb (sent a .neighbour) p) (record { message = sent a; tag = tag; stamp = stamp } ∷ []) []
 
--- ---- steps; `peer s` is "the number under which station s knows the other one"
+-- ---- steps; `peer s` is the number under which station s knows the other one
 
 abbrev pub issuedAfter : World → Side → Answer → Side → Numbers
 issuedAfter w s a = put s (issuing (issued a) (w .numbers s)) (w .numbers)
@@ -167,21 +169,34 @@ module _ (peer : Side → ℕ) where
             (put (other s) (λ h. atTarget (peer s) (w .station s) e a taken (w .fixedFor (other s)) h (w .handovers (other s) h)) (w .handovers));
       }
 
--- "unaltered": a request reaches the other station with the same Old ID (its bearers and their count, and so all else, are open); of any
--- other kind the fields that the kind uses are as sent, the others zero, and byte 1 has the sender's number.
-abbrev pub used : Record → ℕ → ℕ → ℕ
-used m field value = cond (eqb (limit (m .kind) field) 0) 0 value
-
-abbrev pub delivered : ℕ → Record → Record
-delivered p m =
-    message (m .kind) p (used m 1 (m .old .0)) (used m 2 (m .new .0)) (used m 3 (m .first)) (used m 4 (m .second)) (used m 5 (m .reason))
+-- "It arrives unaltered if it reaches the peer with the same Old ID" (its bearers are left open here, and so is all else); "in every other
+-- kind all fields arrive as sent, with the sender's neighbour number in byte 1".
+abbrev pub asSent : ℕ → Record → Record
+asSent p m =
+    record {
+      kind = m .kind;
+      neighbour = p;
+      old = m .old;
+      new = m .new;
+      first = m .first;
+      second = m .second;
+      reason = m .reason;
+      byte11 = m .byte11;
+      number = m .number;
+      time = m .time;
+      erab = m .erab;
+      qci = m .qci;
+      priority = m .priority;
+      flags = m .flags;
+      bytes28 = m .bytes28;
+    }
 
 pub data Carries (p : ℕ) (m : Record) (e : Record) : Type 0 where
   request : m .kind ≡ 1 → e .kind ≡ 1 → e .neighbour ≡ p → e .old .0 ≡ m .old .0 → Carries p m e
-  plain : (m .kind ≡ 1 → ⊥) → e ≡ delivered p m → Carries p m e
+  plain : (m .kind ≡ 1 → ⊥) → e ≡ asSent p m → Carries p m e
 
--- "A message event (kinds 1 to 8) with that number is taken from the queue and from nowhere else. All other events come at any time";
--- "in order, at most once": the oldest message is taken, and then it is gone.
+-- "Known by a number nobody else uses": a message event (kinds 1 to 8) that has it is a message of the other station, and every other event
+-- comes at any time. "In order, at most once": it is the oldest under way, which then is gone.
 abbrev pub isFrom : ℕ → Record → Bool
 isFrom p e = leb 1 (e .kind) && leb (e .kind) 8 && eqb (e .neighbour) p
 
@@ -194,12 +209,17 @@ pub data All {T : Type 0} (P : T → Type 0) : List T → Type 0 where
   nothing : All P []
   more : {x : T} {xs : List T} → P x → All P xs → All P (x ∷ xs)
 
--- "Neither issues 2,000 numbers while a message is under way."
+-- "Neither issues 2,000 numbers" while a message is under way: each counted for itself, in every world, for every message still under way.
 abbrev pub Recent : Side → Numbers → Envelope → Type 0
 Recent s n m = n .issuedCount < m .stamp s + 2000
 
 abbrev pub Bounded : World → Type 0
 Bounded w = (r s : Side) → All (Recent s (w .numbers s)) (w .queue r)
+
+-- other messages of one side under way
+abbrev pub withQueue : World → Side → List Envelope → World
+withQueue w s messages =
+    record { station = w .station; queue = put s messages (w .queue); numbers = w .numbers; fixedFor = w .fixedFor; handovers = w .handovers }
 
 -- "Two fresh stations", of any settings: nothing is under way, and there is no history.
 abbrev pub start : (Side → Station) → World
@@ -232,13 +252,13 @@ module _ (peer : Side → ℕ) where
     pub becomes : w' ≡ act peer w s e a taken rest
     pub bounded : Bounded w'
 
-  -- "A message at any place may be lost."
+  -- A message "may be lost", wherever it stands.
   pub record Loses (w : World) (s : Side) (w' : World) : Type 0 where
     pub older : List Envelope
     pub lost : Envelope
     pub younger : List Envelope
     pub was : w .queue s ≡ older ++ (lost ∷ younger)
-    pub becomes : w' ≡ record { station = w .station; queue = put s (older ++ younger) (w .queue); numbers = w .numbers; fixedFor = w .fixedFor; handovers = w .handovers }
+    pub becomes : w' ≡ withQueue w s (older ++ younger)
 
   pub data Step (w w' : World) : Type 0 where
     acts : (s : Side) (e : Record) (a : Answer) → Acts w s e a w' → Step w w'

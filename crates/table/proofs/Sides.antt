@@ -116,10 +116,10 @@ not-said m k is four =
     by-cases (eqb (m .kind) k) (λ t. absurd (true≢false (sym is ∙ rw (eqb-true (m .kind) k t) four))) (λ t. t)
 
 -- Neither a request nor an acknowledge is sent.
-pub nothing-new : {rs : List Entry} {e m : Record} → Says rs e m → (eqb (m .kind) 1 ≡ false) × (eqb (m .kind) 2 ≡ false)
+pub nothing-new : {rs : List Entry} {e m : Record} {reply : ℕ} → Says rs e reply m → (eqb (m .kind) 1 ≡ false) × (eqb (m .kind) 2 ≡ false)
 nothing-new {m = m} (other is) = (not-said m 1 is refl, not-said m 2 is refl)
 nothing-new (refuses reply _ said) = rw said (refl, refl)
-nothing-new (releases j _ _ _ _ said) = rw said (refl, refl)
+nothing-new (releases j _ _ _ _ _ said) = rw said (refl, refl)
 
 -- ---- the step
 
@@ -184,7 +184,7 @@ module _ (s : Station) (sound : Sound s) (e : Record) (a : Answer) (after : Soun
   pub turned-target : (p : ℕ) → Target p s e a
   turned-target p = by-word (t .says)
     where
-      by-word : Says (s .entries) e (sent a) → Target p s e a
+      by-word : Says (s .entries) e (a .outcome .reply) (sent a) → Target p s e a
       by-word (other is) =
           holds (record {
             no-acknowledge = rw (not-said (sent a) 2 is refl);
@@ -192,15 +192,17 @@ module _ (s : Station) (sound : Sound s) (e : Record) (a : Answer) (after : Soun
             no-release = rw (not-said (sent a) 5 is refl);
             shrinks = shrinks p;
           })
-      by-word (refuses reply one said) =
+      by-word (refuses reason one said) =
           by-cases (eqb (e .neighbour) p)
           (λ u. denies (record { failure = rw (said, u); kind = one; neighbour = eqb-true (e .neighbour) p u; old = rw said; shrinks = shrinks p }))
           (λ u. holds (record { no-acknowledge = rw said; no-failure = rw (said, u); no-release = rw said; shrinks = shrinks p }))
-      by-word (releases j h eleven three new said) =
+      by-word (releases j h eleven three new done said) =
           let x = getD (s .entries) j blank in
           by-cases (eqb (x .neighbour) p)
           (λ u. arrives (record {
             release = rw (said, u);
+            word = rw (said, eqb-true (x .neighbour) p u);
+            done = done;
             kind = eleven;
             new = rw said (sym new);
             admitted = x .admitted;

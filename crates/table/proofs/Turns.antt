@@ -58,11 +58,11 @@ abbrev pub isOther : ℕ → Bool
 isOther k = not (eqb k 1 || eqb k 2 || eqb k 3 || eqb k 5)
 
 -- a failure for a request that is taken, a release of a record that was held when its UE arrived, or none of the four
-pub data Says (rs : List Entry) (e m : Record) : Type 0 where
-  other : isOther (m .kind) ≡ true → Says rs e m
-  refuses : (reply : ℕ) → e .kind ≡ 1 → m ≡ message 3 (e .neighbour) (e .old .0) 0 0 0 reply → Says rs e m
-  releases : (j : ℕ) → j < 64 → e .kind ≡ 11 → getD rs j blank .state ≡ 3 → getD rs j blank .new .0 ≡ e .new .0
-      → m ≡ message 5 (getD rs j blank .neighbour) (getD rs j blank .old .0) (getD rs j blank .new .0) 0 0 0 → Says rs e m
+pub data Says (rs : List Entry) (e : Record) (reply : ℕ) (m : Record) : Type 0 where
+  other : isOther (m .kind) ≡ true → Says rs e reply m
+  refuses : (reason : ℕ) → e .kind ≡ 1 → m ≡ message 3 (e .neighbour) (e .old .0) 0 0 0 reason → Says rs e reply m
+  releases : (j : ℕ) → j < 64 → e .kind ≡ 11 → getD rs j blank .state ≡ 3 → getD rs j blank .new .0 ≡ e .new .0 → reply ≡ 0
+      → m ≡ message 5 (getD rs j blank .neighbour) (getD rs j blank .old .0) (getD rs j blank .new .0) 0 0 0 → Says rs e reply m
 
 -- ---- the step
 
@@ -70,7 +70,7 @@ pub data Says (rs : List Entry) (e m : Record) : Type 0 where
 pub record Turned (s : Station) (e : Record) (a : Answer) : Type 0 where
   pub last : a .station .last ≡ s .last
   pub change : (j : ℕ) → j < 64 → Change e (ending a) (getD (s .entries) j blank) (getD (a .station .entries) j blank)
-  pub says : Says (s .entries) e (sent a)
+  pub says : Says (s .entries) e (a .outcome .reply) (sent a)
 
 -- a start or a request makes one, or none is made
 pub data Turn (s : Station) (e : Record) : Answer → Type 0 where
@@ -141,7 +141,7 @@ last-other e r =
 
 module _ (s : Station) (sound : Sound s) (e : Record) where
   -- A decision about one record changes that one.
-  put-turned : (i : ℕ) → i < 64 → (d : Decision) → Change e (d .ending) (getD (s .entries) i blank) (d .entry) → Says (s .entries) e (d .message) → Turned s e (carried i d s)
+  put-turned : (i : ℕ) → i < 64 → (d : Decision) → Change e (d .ending) (getD (s .entries) i blank) (d .entry) → Says (s .entries) e (d .reply) (d .message) → Turned s e (carried i d s)
   put-turned i place d change says =
       record {
         last = refl;
@@ -162,7 +162,7 @@ module _ (s : Station) (sound : Sound s) (e : Record) where
       (λ two one _. put-turned i place _ (prepares deadline formed two one (same-neighbour e r mine 2 two refl) (same-old e r mine 2 two refl)) (other refl))
       (λ _ _. put-turned i place _ stores (other refl))
       (put-turned i place _ stays (other refl))
-      (λ eleven three. put-turned i place _ (serves three) (releases i place eleven three (same-new e r mine 11 eleven refl refl refl) refl))
+      (λ eleven three. put-turned i place _ (serves three) (releases i place eleven three (same-new e r mine 11 eleven refl refl refl) refl refl))
       (λ none. put-turned i place _ (ended e r mine (actionOf (e .kind) (r .state)) (finals (e .kind) (r .state)) none) (other (last-other e r)))
 
   -- A refusal leaves all records as they were.

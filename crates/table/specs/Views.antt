@@ -192,6 +192,8 @@ pub record Denies (p : ℕ) (s : Station) (e : Record) (a : Answer) : Type 0 whe
 -- The UE of a held record arrives: its IDs are those of the release that is sent.
 pub record Arrives (p : ℕ) (s : Station) (e : Record) (a : Answer) : Type 0 where
   pub release : to 5 p a ≡ true
+  pub word : sent a ≡ message 5 p (sent a .old .0) (sent a .new .0) 0 0 0
+  pub done : a .outcome .reply ≡ 0
   pub kind : e .kind ≡ 11
   pub new : e .new .0 ≡ sent a .new .0
   pub admitted : ℕ
