@@ -1,7 +1,7 @@
 -- What a well-formed event has.
 use Prim.Native.Nat.{ℕ, _≤_, _<_}
 use mathlib.Core.Path.{_≡_}
-use mathlib.Core.Bool.{true, _&&_}
+use mathlib.Core.Bool.{Bool, true, _&&_}
 use borrow.Author.Tests.{leb-true, eqb-true}
 use native.Mathlib.Omega.{arith}
 use lib.Dec.{leb, eqb}
@@ -23,6 +23,12 @@ at-most used most value t =
     (λ u. omega (arith, eqb-true value 0 u))
     (λ u. leb-true value most (both-true (eqb used 1) (leb value most) (rw u at t) .1))
 
+-- whether the sets and the reason of an event are
+abbrev setsInRange : Record → Bool
+setsInRange e =
+    inRange (usedBy (e .kind) 3) 65535 (e .first) && inRange (usedBy (e .kind) 4) 65535 (e .second)
+    && inRange (usedBy (e .kind) 5) 255 (e .reason)
+
 module _ (e : Record) (t : wellFormed e ≡ true) where
   formed : (isKind (e .kind) && idsInRange (usedBy (e .kind)) e && valuesInRange (usedBy (e .kind)) e ≡ true)
   formed =
@@ -39,13 +45,11 @@ module _ (e : Record) (t : wellFormed e ≡ true) where
   values : valuesInRange (usedBy (e .kind)) e ≡ true
   values = both-true (isKind (e .kind) && idsInRange (usedBy (e .kind)) e) (valuesInRange (usedBy (e .kind)) e) formed .1
 
-  first-four : (inRange (usedBy (e .kind) 3) 65535 (e .first) && inRange (usedBy (e .kind) 4) 65535 (e .second) && inRange (usedBy (e .kind) 5) 255 (e .reason) && inRange (usedBy (e .kind) 6) 256 (e .number) ≡ true) × (inRange (usedBy (e .kind) 7) 1000000000000 (e .time) ≡ true)
-  first-four = both-true (inRange (usedBy (e .kind) 3) 65535 (e .first) && inRange (usedBy (e .kind) 4) 65535 (e .second) && inRange (usedBy (e .kind) 5) 255 (e .reason) && inRange (usedBy (e .kind) 6) 256 (e .number)) (inRange (usedBy (e .kind) 7) 1000000000000 (e .time)) values
+  count-and-time : (setsInRange e && inRange (usedBy (e .kind) 6) 256 (e .number) ≡ true) × (inRange (usedBy (e .kind) 7) 1000000000000 (e .time) ≡ true)
+  count-and-time = both-true (setsInRange e && inRange (usedBy (e .kind) 6) 256 (e .number)) (inRange (usedBy (e .kind) 7) 1000000000000 (e .time)) values
 
   pub time-within : e .time ≤ 1000000000000
-  time-within = at-most (usedBy (e .kind) 7) 1000000000000 (e .time) (first-four .1)
+  time-within = at-most (usedBy (e .kind) 7) 1000000000000 (e .time) (count-and-time .1)
 
   pub number-within : e .number ≤ 256
-  number-within =
-      at-most (usedBy (e .kind) 6) 256 (e .number)
-      (both-true (inRange (usedBy (e .kind) 3) 65535 (e .first) && inRange (usedBy (e .kind) 4) 65535 (e .second) && inRange (usedBy (e .kind) 5) 255 (e .reason)) (inRange (usedBy (e .kind) 6) 256 (e .number)) (first-four .0) .1)
+  number-within = at-most (usedBy (e .kind) 6) 256 (e .number) (both-true (setsInRange e) (inRange (usedBy (e .kind) 6) 256 (e .number)) (count-and-time .0) .1)
