@@ -5,7 +5,7 @@ use mathlib.Core.Bool.{true, _&&_, true≢false, false≢true}
 use mathlib.Core.Logic.{⊎-elim}
 use mathlib.Core.List.{List}
 use mathlib.Core.Option.{none, some}
-use borrow.Author.Tests.{eqb-true, eqb-false, eq-eqb, le-leb, leb-false}
+use borrow.Author.Tests.{eqb-true, eqb-false, eq-eqb, leb-false}
 use native.Mathlib.Omega.{arith}
 use lib.Dec.{leb, eqb}
 use lib.ListN.{getD}
@@ -26,6 +26,7 @@ use Rattle.table.specs.Table.{find, put}
 use Rattle.table.specs.Views.{NotOut, Preparing, Prepared, outOf, dueOf, named, out, due, ending}
 use Rattle.table.proofs.Bounds.{bounded}
 use Rattle.table.proofs.Counting.{own-is}
+use Rattle.table.proofs.Forms.{used-in-range}
 use Rattle.table.proofs.Finding.{found-at, found-none}
 use Rattle.table.proofs.Orderless.{about-once, none-at}
 use Rattle.table.proofs.Placing.{found-place}
@@ -97,7 +98,7 @@ module _ {s : Station} (reached : Reached s) (bearers : List ℕ) (room : ℕ) w
       let small = bounded reached j (there .1) in
       let mine = eqb-true i (own x) (own-is i x (there .2)) in
       let formed : wellFormed (release p i n) ≡ true =
-      rw (le-leb p 31 (omega (arith, small, eqb-true (x .neighbour) p (seen .1))), le-leb i 4095 (omega (arith, mine, sound reached .fit j (there .1) .id)), le-leb n 4095 (omega (arith, small, seen .2))) in
+      rw (used-in-range 31 p (omega (arith, small, eqb-true (x .neighbour) p (seen .1))), used-in-range 4095 i (omega (arith, mine, sound reached .fit j (there .1) .id)), used-in-range 4095 n (omega (arith, small, seen .2))) in
       let step = row-step s (release p i n) bearers room formed j 5 refl (release-finds s (sound reached) p i n j (there .1) (there .2) (seen .0) (seen .1) (seen .2)) (seen .0) in
       let after : Sound (put j blank s) = rw step at (sound-step (sound reached) (release p i n) bearers room) in
       rw step (rw (gone s (sound reached) p i n j (there .1) (there .2) (seen .0) (seen .1) (seen .2) after), refl))

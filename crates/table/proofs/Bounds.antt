@@ -27,7 +27,7 @@ Bounded r = (r .neighbour ≤ 31) × (r .new .0 ≤ 4095)
 change-bounded : {e : Record} {z : ℕ} {x y : Entry} → Change e z x y → Bounded x → Bounded y
 change-bounded stays b = b
 change-bounded stores b = b
-change-bounded {e} (prepares deadline formed two _ _ _) b = (b .0, rw two at (new-within e formed (ne-eqb (e .kind) 6 (λ six. omega arith))))
+change-bounded {e} (prepares deadline formed two _ _ _) b = (b .0, new-within e formed (ne-eqb (e .kind) 6 (λ six. omega arith)))
 change-bounded (serves _) b = b
 change-bounded (ends _ _) b = (omega arith, omega arith)
 
@@ -40,8 +40,8 @@ module _ (s : Station) (sound : Sound s) (all : (j : ℕ) → j < 64 → Bounded
       (λ t. rw (getD-set-other (s .entries) k j r blank (eqb-false j k t)) (all j h))
 
   turn-bounded : {e : Record} {a : Answer} → Turn s e a → (j : ℕ) → j < 64 → Bounded (getD (a .station .entries) j blank)
-  turn-bounded {e} (starts k found formed nine) = made-bounded k (started e s) (rw nine at (neighbour-within e formed), omega arith)
-  turn-bounded {e} (admits k found formed one a) = made-bounded k (heldFor e a s) (rw one at (neighbour-within e formed), omega (arith, issue-small s sound))
+  turn-bounded {e} (starts k found formed nine) = made-bounded k (started e s) (neighbour-within e formed, omega arith)
+  turn-bounded {e} (admits k found formed one a) = made-bounded k (heldFor e a s) (neighbour-within e formed, omega (arith, issue-small s sound))
   turn-bounded (turns t) = λ j h. change-bounded (t .change j h) (all j h)
 
 pub bounded : {s : Station} → Reached s → (j : ℕ) → j < 64 → (getD (s .entries) j blank .neighbour ≤ 31) × (getD (s .entries) j blank .new .0 ≤ 4095)

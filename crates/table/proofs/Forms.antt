@@ -1,13 +1,13 @@
 -- What a well-formed event has.
 use Prim.Native.Nat.{ℕ, _≤_, _<_}
 use mathlib.Core.Path.{_≡_}
-use mathlib.Core.Bool.{true, false, _&&_, _||_, false≢true}
-use borrow.Author.Tests.{leb-true, eqb-true}
+use mathlib.Core.Bool.{Bool, true, false, _&&_, _||_, false≢true}
+use borrow.Author.Tests.{leb-true, le-leb, eqb-true}
 use native.Mathlib.Omega.{arith}
 use lib.Dec.{leb, eqb}
 use Rattle.laws.proofs.Tests.{by-cases, both-true}
 use Rattle.records.specs.declared.Record.{Record}
-use Rattle.table.specs.Fields.{limit, isAbsent, isKind, idsWithin, valuesWithin, othersZero, isFilled, wellFormed}
+use Rattle.table.specs.Fields.{usedBy, isAbsent, isKind, inRange, idsInRange, valuesInRange, othersZero, isFilled, wellFormed}
 
 -- A kind is below 18.
 kind-below : (k : ℕ) → isKind k ≡ true → k < 18
@@ -16,49 +16,64 @@ kind-below k t =
     (λ u. omega (arith, leb-true k 15 (both-true (leb 1 k) (leb k 15) u .1)))
     (λ u. omega (arith, eqb-true k 17 (rw u at t)))
 
+-- A field in range is at most its greatest value.
+at-most : (used most value : ℕ) → inRange used most value ≡ true → value ≤ most
+at-most used most value t =
+    by-cases (eqb value 0)
+    (λ u. omega (arith, eqb-true value 0 u))
+    (λ u. leb-true value most (both-true (eqb used 1) (leb value most) (rw u at t) .1))
+
+-- A field that is used is in range up to its greatest value.
+pub used-in-range : (most value : ℕ) → value ≤ most → inRange 1 most value ≡ true
+used-in-range most value h = by-cases (eqb value 0) (λ u. rw u) (λ u. rw (u, le-leb value most h))
+
+-- whether the sets and the reason of an event are
+abbrev setsInRange : Record → Bool
+setsInRange e =
+    inRange (usedBy (e .kind) 3) 65535 (e .first) && inRange (usedBy (e .kind) 4) 65535 (e .second)
+    && inRange (usedBy (e .kind) 5) 255 (e .reason)
+
 module _ (e : Record) (t : wellFormed e ≡ true) where
-  formed : (isKind (e .kind) && idsWithin (limit (e .kind)) e && valuesWithin (limit (e .kind)) e ≡ true)
+  formed : (isKind (e .kind) && idsInRange (usedBy (e .kind)) e && valuesInRange (usedBy (e .kind)) e ≡ true)
   formed =
-      both-true (isKind (e .kind) && idsWithin (limit (e .kind)) e && valuesWithin (limit (e .kind)) e) (othersZero e)
-      (both-true (isKind (e .kind) && idsWithin (limit (e .kind)) e && valuesWithin (limit (e .kind)) e && othersZero e) (isFilled e) t .0) .0
+      both-true (isKind (e .kind) && idsInRange (usedBy (e .kind)) e && valuesInRange (usedBy (e .kind)) e) (othersZero e)
+      (both-true (isKind (e .kind) && idsInRange (usedBy (e .kind)) e && valuesInRange (usedBy (e .kind)) e && othersZero e) (isFilled e) t .0) .0
 
   pub kind-small : e .kind < 18
   kind-small =
       kind-below (e .kind)
-      (both-true (isKind (e .kind)) (idsWithin (limit (e .kind)) e)
-      (both-true (isKind (e .kind) && idsWithin (limit (e .kind)) e) (valuesWithin (limit (e .kind)) e) formed .0) .0)
+      (both-true (isKind (e .kind)) (idsInRange (usedBy (e .kind)) e)
+      (both-true (isKind (e .kind) && idsInRange (usedBy (e .kind)) e) (valuesInRange (usedBy (e .kind)) e) formed .0) .0)
 
-  -- Its number and its time are within the kind's limits.
-  values : valuesWithin (limit (e .kind)) e ≡ true
-  values = both-true (isKind (e .kind) && idsWithin (limit (e .kind)) e) (valuesWithin (limit (e .kind)) e) formed .1
+  -- Its number and its time are in range, whatever its kind is.
+  values : valuesInRange (usedBy (e .kind)) e ≡ true
+  values = both-true (isKind (e .kind) && idsInRange (usedBy (e .kind)) e) (valuesInRange (usedBy (e .kind)) e) formed .1
 
-  -- Its neighbour is within the kind's limit, and so is its New ID, but where a cancel has none.
-  ids : idsWithin (limit (e .kind)) e ≡ true
+  -- Its neighbour is in range, and so is its New ID, but where a cancel has none.
+  ids : idsInRange (usedBy (e .kind)) e ≡ true
   ids =
-      both-true (isKind (e .kind)) (idsWithin (limit (e .kind)) e)
-      (both-true (isKind (e .kind) && idsWithin (limit (e .kind)) e) (valuesWithin (limit (e .kind)) e) formed .0) .1
+      both-true (isKind (e .kind)) (idsInRange (usedBy (e .kind)) e)
+      (both-true (isKind (e .kind) && idsInRange (usedBy (e .kind)) e) (valuesInRange (usedBy (e .kind)) e) formed .0) .1
 
-  pub neighbour-within : e .neighbour ≤ limit (e .kind) 0
+  pub neighbour-within : e .neighbour ≤ 31
   neighbour-within =
-      let old = leb (e .old .0) (limit (e .kind) 1) in
-      let new = leb (e .new .0) (limit (e .kind) 2) || isAbsent e in
-      let two = both-true (leb (e .neighbour) (limit (e .kind) 0) && old) new ids in
-      leb-true (e .neighbour) (limit (e .kind) 0) (both-true (leb (e .neighbour) (limit (e .kind) 0)) old (two .0) .0)
+      let neighbour = inRange (usedBy (e .kind) 0) 31 (e .neighbour) in
+      let old = inRange (usedBy (e .kind) 1) 4095 (e .old .0) in
+      let new = inRange (usedBy (e .kind) 2) 4095 (e .new .0) || isAbsent e in
+      at-most (usedBy (e .kind) 0) 31 (e .neighbour) (both-true neighbour old (both-true (neighbour && old) new ids .0) .0)
 
-  pub new-within : eqb (e .kind) 6 ≡ false → e .new .0 ≤ limit (e .kind) 2
+  pub new-within : eqb (e .kind) 6 ≡ false → e .new .0 ≤ 4095
   new-within six =
-      let rest = leb (e .neighbour) (limit (e .kind) 0) && leb (e .old .0) (limit (e .kind) 1) in
-      let new = both-true rest (leb (e .new .0) (limit (e .kind) 2) || isAbsent e) ids .1 in
-      by-cases (leb (e .new .0) (limit (e .kind) 2)) (λ u. leb-true (e .new .0) (limit (e .kind) 2) u)
-      (λ u. absurd (false≢true (rw (u, six) at new)))
+      let others = inRange (usedBy (e .kind) 0) 31 (e .neighbour) && inRange (usedBy (e .kind) 1) 4095 (e .old .0) in
+      let new = inRange (usedBy (e .kind) 2) 4095 (e .new .0) in
+      let one = both-true others (new || isAbsent e) ids .1 in
+      by-cases new (λ u. at-most (usedBy (e .kind) 2) 4095 (e .new .0) u) (λ u. absurd (false≢true (rw (u, six) at one)))
 
-  pub time-within : e .time ≤ limit (e .kind) 7
-  time-within =
-      leb-true (e .time) (limit (e .kind) 7)
-      (both-true (leb (e .first) (limit (e .kind) 3) && leb (e .second) (limit (e .kind) 4) && leb (e .reason) (limit (e .kind) 5) && leb (e .number) (limit (e .kind) 6)) (leb (e .time) (limit (e .kind) 7)) values .1)
+  count-and-time : (setsInRange e && inRange (usedBy (e .kind) 6) 256 (e .number) ≡ true) × (inRange (usedBy (e .kind) 7) 1000000000000 (e .time) ≡ true)
+  count-and-time = both-true (setsInRange e && inRange (usedBy (e .kind) 6) 256 (e .number)) (inRange (usedBy (e .kind) 7) 1000000000000 (e .time)) values
 
-  pub number-within : e .number ≤ limit (e .kind) 6
-  number-within =
-      leb-true (e .number) (limit (e .kind) 6)
-      (both-true (leb (e .first) (limit (e .kind) 3) && leb (e .second) (limit (e .kind) 4) && leb (e .reason) (limit (e .kind) 5)) (leb (e .number) (limit (e .kind) 6))
-      (both-true (leb (e .first) (limit (e .kind) 3) && leb (e .second) (limit (e .kind) 4) && leb (e .reason) (limit (e .kind) 5) && leb (e .number) (limit (e .kind) 6)) (leb (e .time) (limit (e .kind) 7)) values .0) .1)
+  pub time-within : e .time ≤ 1000000000000
+  time-within = at-most (usedBy (e .kind) 7) 1000000000000 (e .time) (count-and-time .1)
+
+  pub number-within : e .number ≤ 256
+  number-within = at-most (usedBy (e .kind) 6) 256 (e .number) (both-true (setsInRange e) (inRange (usedBy (e .kind) 6) 256 (e .number)) (count-and-time .0) .1)

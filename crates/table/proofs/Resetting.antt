@@ -11,10 +11,10 @@ use Rattle.laws.proofs.Tests.{by-cases}
 use Rattle.records.specs.declared.Record.{Record}
 use Rattle.table.specs.declared.Entry.{Entry}
 use Rattle.table.specs.declared.Station.{Station}
-use Rattle.table.specs.Events.{key, about}
+use Rattle.table.specs.Events.{key, keyed, about}
 use Rattle.table.specs.Numbers.{blank}
 use Rattle.table.specs.Sound.{Sound}
-use Rattle.table.specs.Table.{tally, Puts, endedBy, reset}
+use Rattle.table.specs.Table.{tally, Puts, put, reset}
 use Rattle.table.proofs.Tally.{tally-append, tally-le}
 
 -- what a reset makes of a record, and the units that it gives back
@@ -23,6 +23,10 @@ after e r = cond (about e r) blank r
 
 abbrev pub back : Record → Entry → ℕ
 back e r = cond (about e r) (r .units) 0
+
+-- the record at a place ends, if an event is about it
+abbrev pub endedBy : (ℕ → ℕ) → ℕ → Record → Station → Station
+endedBy by i e s = cond (keyed by e (getD (s .entries) i blank)) (put i blank s) s
 
 -- A reset's table holds at each place what the reset makes of the record there.
 pub reset-at : (e : Record) (s : Station) (i : ℕ) → getD (reset e s .entries) i blank ≡ after e (getD (s .entries) i blank)

@@ -115,7 +115,7 @@ tick-sound s sound e fifteen formed =
     (λ t. rw t (tick-at (at (e .time) s) (sound-at s sound (e .time) time) e fifteen (soonest e s) refl))
   where
     time : e .time ≤ 1000000000000
-    time = rw fifteen at (time-within e formed)
+    time = time-within e formed
 
 -- A step leaves a sound station sound.
 pub sound-step : {s : Station} → Sound s → (e : Record) (bearers : List ℕ) (room : ℕ) → Sound (stepOf s e bearers room .station)

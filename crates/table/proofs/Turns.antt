@@ -218,7 +218,7 @@ tick-turned s sound e formed fifteen =
     by-cases (ltb (e .time) (s .clock)) (λ t. rw t (refused-turned s sound e 8)) (λ t. rw t (at-time (soonest e s) refl))
   where
     late : Sound (at (e .time) s)
-    late = sound-at s sound (e .time) (rw fifteen at (time-within e formed))
+    late = sound-at s sound (e .time) (time-within e formed)
 
     at-time : (found : Found) → soonest e s ≡ found → Turned s e (tickAt e found (at (e .time) s))
     at-time Nothing _ = record { last = refl; change = λ j h. stays; says = other refl }

@@ -1,37 +1,40 @@
 -- Which fields a kind uses, and in what range: the column "Uses".
-use Prim.Native.Nat.{ℕ, _+_}
-use mathlib.Core.Bool.{Bool, cond, not, _&&_, _||_}
+use Prim.Native.Nat.{ℕ}
+use mathlib.Core.Bool.{Bool, not, _&&_, _||_}
 use mathlib.Core.List.{List, [], _∷_}
 use lib.Dec.{leb, eqb}
 use lib.ListN.{getD}
 use Rattle.records.specs.declared.Record.{Record}
 
--- the greatest value of each field of a kind; 0 where the kind does not use it: "a field that a kind does not use is zero".
--- Columns: neighbour 0 to 31, Old and New 0 to 4,095, first and second set, reason any byte, number, time to 10^12.
-abbrev pub limits : List (List ℕ)
-limits =
+-- "Uses": 1 for a field that a kind uses. Columns: neighbour, Old, New, first set, second set, reason, number, time.
+abbrev pub uses : List (List ℕ)
+uses =
     (0 ∷ 0 ∷ 0 ∷ 0 ∷ 0 ∷ 0 ∷ 0 ∷ 0 ∷ [])
-    ∷ (31 ∷ 4095 ∷ 0 ∷ 0 ∷ 0 ∷ 0 ∷ 256 ∷ 0 ∷ [])
-    ∷ (31 ∷ 4095 ∷ 4095 ∷ 65535 ∷ 65535 ∷ 0 ∷ 0 ∷ 0 ∷ [])
-    ∷ (31 ∷ 4095 ∷ 0 ∷ 0 ∷ 0 ∷ 255 ∷ 0 ∷ 0 ∷ [])
-    ∷ (31 ∷ 4095 ∷ 4095 ∷ 65535 ∷ 0 ∷ 0 ∷ 0 ∷ 0 ∷ [])
-    ∷ (31 ∷ 4095 ∷ 4095 ∷ 0 ∷ 0 ∷ 0 ∷ 0 ∷ 0 ∷ [])
-    ∷ (31 ∷ 4095 ∷ 4095 ∷ 0 ∷ 0 ∷ 255 ∷ 0 ∷ 0 ∷ [])
-    ∷ (31 ∷ 0 ∷ 0 ∷ 0 ∷ 0 ∷ 0 ∷ 0 ∷ 0 ∷ [])
-    ∷ (31 ∷ 0 ∷ 0 ∷ 0 ∷ 0 ∷ 0 ∷ 0 ∷ 0 ∷ [])
-    ∷ (31 ∷ 0 ∷ 0 ∷ 65535 ∷ 0 ∷ 0 ∷ 0 ∷ 0 ∷ [])
-    ∷ (0 ∷ 4095 ∷ 0 ∷ 0 ∷ 0 ∷ 0 ∷ 0 ∷ 0 ∷ [])
-    ∷ (0 ∷ 0 ∷ 4095 ∷ 0 ∷ 0 ∷ 0 ∷ 0 ∷ 0 ∷ [])
-    ∷ (0 ∷ 4095 ∷ 0 ∷ 0 ∷ 0 ∷ 0 ∷ 0 ∷ 0 ∷ [])
-    ∷ (0 ∷ 0 ∷ 4095 ∷ 0 ∷ 0 ∷ 0 ∷ 0 ∷ 0 ∷ [])
-    ∷ (31 ∷ 0 ∷ 0 ∷ 0 ∷ 0 ∷ 0 ∷ 0 ∷ 0 ∷ [])
-    ∷ (0 ∷ 0 ∷ 0 ∷ 0 ∷ 0 ∷ 0 ∷ 0 ∷ 1000000000000 ∷ [])
+    ∷ (1 ∷ 1 ∷ 0 ∷ 0 ∷ 0 ∷ 0 ∷ 1 ∷ 0 ∷ [])
+    ∷ (1 ∷ 1 ∷ 1 ∷ 1 ∷ 1 ∷ 0 ∷ 0 ∷ 0 ∷ [])
+    ∷ (1 ∷ 1 ∷ 0 ∷ 0 ∷ 0 ∷ 1 ∷ 0 ∷ 0 ∷ [])
+    ∷ (1 ∷ 1 ∷ 1 ∷ 1 ∷ 0 ∷ 0 ∷ 0 ∷ 0 ∷ [])
+    ∷ (1 ∷ 1 ∷ 1 ∷ 0 ∷ 0 ∷ 0 ∷ 0 ∷ 0 ∷ [])
+    ∷ (1 ∷ 1 ∷ 1 ∷ 0 ∷ 0 ∷ 1 ∷ 0 ∷ 0 ∷ [])
+    ∷ (1 ∷ 0 ∷ 0 ∷ 0 ∷ 0 ∷ 0 ∷ 0 ∷ 0 ∷ [])
+    ∷ (1 ∷ 0 ∷ 0 ∷ 0 ∷ 0 ∷ 0 ∷ 0 ∷ 0 ∷ [])
+    ∷ (1 ∷ 0 ∷ 0 ∷ 1 ∷ 0 ∷ 0 ∷ 0 ∷ 0 ∷ [])
+    ∷ (0 ∷ 1 ∷ 0 ∷ 0 ∷ 0 ∷ 0 ∷ 0 ∷ 0 ∷ [])
+    ∷ (0 ∷ 0 ∷ 1 ∷ 0 ∷ 0 ∷ 0 ∷ 0 ∷ 0 ∷ [])
+    ∷ (0 ∷ 1 ∷ 0 ∷ 0 ∷ 0 ∷ 0 ∷ 0 ∷ 0 ∷ [])
+    ∷ (0 ∷ 0 ∷ 1 ∷ 0 ∷ 0 ∷ 0 ∷ 0 ∷ 0 ∷ [])
+    ∷ (1 ∷ 0 ∷ 0 ∷ 0 ∷ 0 ∷ 0 ∷ 0 ∷ 0 ∷ [])
+    ∷ (0 ∷ 0 ∷ 0 ∷ 0 ∷ 0 ∷ 0 ∷ 0 ∷ 1 ∷ [])
     ∷ (0 ∷ 0 ∷ 0 ∷ 0 ∷ 0 ∷ 0 ∷ 0 ∷ 0 ∷ [])
-    ∷ (0 ∷ 4095 ∷ 0 ∷ 65535 ∷ 0 ∷ 0 ∷ 0 ∷ 0 ∷ [])
+    ∷ (0 ∷ 1 ∷ 0 ∷ 1 ∷ 0 ∷ 0 ∷ 0 ∷ 0 ∷ [])
     ∷ []
 
-abbrev pub limit : ℕ → ℕ → ℕ
-limit kind field = getD (getD limits kind []) field 0
+abbrev pub usedBy : ℕ → ℕ → ℕ
+usedBy kind field = getD (getD uses kind []) field 0
+
+-- "a field that a kind does not use is zero", and one that it uses is at most its greatest value
+abbrev pub inRange : ℕ → ℕ → ℕ → Bool
+inRange used most value = eqb value 0 || eqb used 1 && leb value most
 
 -- "New or absent": 65,535 in a cancel
 abbrev pub isAbsent : Record → Bool
@@ -41,14 +44,17 @@ isAbsent e = eqb (e .kind) 6 && eqb (e .new .0) 65535
 abbrev pub isKind : ℕ → Bool
 isKind k = leb 1 k && leb k 15 || eqb k 17
 
--- no field beyond its limit
-abbrev pub idsWithin : (ℕ → ℕ) → Record → Bool
-idsWithin most e = leb (e .neighbour) (most 0) && leb (e .old .0) (most 1) && (leb (e .new .0) (most 2) || isAbsent e)
+-- neighbour 0 to 31, Old and New 0 to 4,095
+abbrev pub idsInRange : (ℕ → ℕ) → Record → Bool
+idsInRange by e =
+    inRange (by 0) 31 (e .neighbour) && inRange (by 1) 4095 (e .old .0)
+    && (inRange (by 2) 4095 (e .new .0) || isAbsent e)
 
-abbrev pub valuesWithin : (ℕ → ℕ) → Record → Bool
-valuesWithin most e =
-    leb (e .first) (most 3) && leb (e .second) (most 4) && leb (e .reason) (most 5) && leb (e .number) (most 6)
-    && leb (e .time) (most 7)
+-- any set, any reason; a count to 256, a time to 10^12
+abbrev pub valuesInRange : (ℕ → ℕ) → Record → Bool
+valuesInRange by e =
+    inRange (by 3) 65535 (e .first) && inRange (by 4) 65535 (e .second) && inRange (by 5) 255 (e .reason)
+    && inRange (by 6) 256 (e .number) && inRange (by 7) 1000000000000 (e .time)
 
 -- bytes 11 and 24 to 31, which no kind but 16 uses
 abbrev pub othersZero : Record → Bool
@@ -63,4 +69,4 @@ isFilled e = (not (eqb (e .kind) 9) || not (eqb (e .first) 0)) && (not (eqb (e .
 -- what is not malformed
 abbrev pub wellFormed : Record → Bool
 wellFormed e =
-    isKind (e .kind) && idsWithin (limit (e .kind)) e && valuesWithin (limit (e .kind)) e && othersZero e && isFilled e
+    isKind (e .kind) && idsInRange (usedBy (e .kind)) e && valuesInRange (usedBy (e .kind)) e && othersZero e && isFilled e

@@ -29,6 +29,10 @@ answer reply ending count sent s = record { outcome = record { reply = reply; en
 abbrev pub refused : ℕ → Station → Answer
 refused reply s = answer reply 0 0 silence s
 
+-- what it says
+abbrev pub quiet : ℕ → Outcome
+quiet reply = record { reply = reply; ending = 0; count = 0; message = silence }
+
 -- a decision about the record at a place, carried out
 abbrev pub carried : ℕ → Decision → Station → Answer
 carried i d s = answer (d .reply) (d .ending) 0 (d .message) (put i (d .entry) s)

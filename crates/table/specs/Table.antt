@@ -83,10 +83,6 @@ pub record Puts (i : ℕ) (r : Entry) (s : Station) : Type 0 where
   pub back : getD (s .entries) i blank .units ≤ s .used
   pub out : s .used + r .units < 2 ^ 32
 
--- the record at a place ends, if an event is about it
-abbrev pub endedBy : (ℕ → ℕ) → ℕ → Record → Station → Station
-endedBy by i e s = cond (keyed by e (getD (s .entries) i blank)) (put i blank s) s
-
 -- one record is made, with the own ID that is then the last issued
 abbrev pub add : ℕ → ℕ → Entry → Station → Station
 add i issued r s =

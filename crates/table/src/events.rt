@@ -11,66 +11,75 @@ ghost use Prim.Native.Nat.{_<_};
 ghost use mathlib.Core.Bool.{cond};
 ghost use lib.Dec.{eqb};
 ghost use lib.ListN.{getD};
-ghost use Rattle.table.specs.Events.{keyed, message as messageOf, silence as silenceOf, listsFit, setFits, refusal as refusalOf, decision, prepared, stored, serving, lastWord, decide as decideOf};
+ghost use Rattle.table.specs.Events.{newFits, keyed, message as messageOf, silence as silenceOf, listsFit, setFits, refusal as refusalOf, decision, prepared, stored, serving, lastWord, decide as decideOf};
 
 // The record that an event of a kind is about: the first and the last of the states looked at; whether neighbour, Old and New
 // are compared (New: 2 if the record is prepared, 3 unless it is absent).
 pub(crate) const KEYS: [[u8; 5]; 18] = [
-    [0, 0, 0, 0, 0],
-    [3, 3, 1, 1, 0],
-    [1, 2, 1, 1, 0],
-    [1, 2, 1, 1, 0],
-    [3, 3, 1, 1, 1],
-    [1, 2, 1, 1, 2],
-    [3, 3, 1, 1, 3],
-    [1, 3, 1, 0, 0],
-    [0, 0, 0, 0, 0],
-    [0, 0, 0, 0, 0],
-    [1, 2, 0, 1, 0],
-    [3, 4, 0, 0, 1],
-    [1, 2, 0, 1, 0],
-    [3, 4, 0, 0, 1],
-    [1, 3, 1, 0, 0],
-    [1, 3, 0, 0, 0],
-    [0, 0, 0, 0, 0],
-    [1, 2, 0, 1, 0],
+    [0, 0, 0, 0, 0], // 0 no kind
+    [3, 3, 1, 1, 0], // 1 handover request received
+    [1, 2, 1, 1, 0], // 2 request acknowledge received
+    [1, 2, 1, 1, 0], // 3 preparation failure received
+    [3, 3, 1, 1, 1], // 4 SN status transfer received
+    [1, 2, 1, 1, 2], // 5 UE context release received
+    [3, 3, 1, 1, 3], // 6 handover cancel received
+    [1, 3, 1, 0, 0], // 7 reset request received
+    [0, 0, 0, 0, 0], // 8 reset response received
+    [0, 0, 0, 0, 0], // 9 start a handover
+    [1, 2, 0, 1, 0], // 10 cancel
+    [3, 4, 0, 0, 1], // 11 UE arrived
+    [1, 2, 0, 1, 0], // 12 UE returned
+    [3, 4, 0, 0, 1], // 13 UE left
+    [1, 3, 1, 0, 0], // 14 reset a neighbour
+    [1, 3, 0, 0, 0], // 15 tick
+    [0, 0, 0, 0, 0], // 16 bearer
+    [1, 2, 0, 1, 0], // 17 send SN status
 ];
 
 // What a record does, by the event's kind and its own state: 0 does not take it; 1 to 10 the endings; 11 prepared, 12 status
 // stored, 13 status sent, 14 started, 15 held.
 const ACTIONS: [[u8; 5]; 18] = [
-    [0, 0, 0, 0, 0],
-    [15, 0, 0, 0, 0],
-    [0, 11, 0, 0, 0],
-    [0, 1, 0, 0, 0],
-    [0, 0, 0, 12, 0],
-    [0, 0, 3, 0, 0],
-    [0, 0, 0, 7, 0],
-    [0, 10, 10, 10, 0],
-    [0, 0, 0, 0, 0],
-    [14, 0, 0, 0, 0],
-    [0, 2, 2, 0, 0],
-    [0, 0, 0, 8, 0],
-    [0, 0, 5, 0, 0],
-    [0, 0, 0, 0, 9],
-    [0, 10, 10, 10, 0],
-    [0, 2, 4, 6, 0],
-    [0, 0, 0, 0, 0],
-    [0, 0, 13, 0, 0],
+    [0, 0, 0, 0, 0], // 0 no kind
+    [15, 0, 0, 0, 0], // 1 handover request received
+    [0, 11, 0, 0, 0], // 2 request acknowledge received
+    [0, 1, 0, 0, 0], // 3 preparation failure received
+    [0, 0, 0, 12, 0], // 4 SN status transfer received
+    [0, 0, 3, 0, 0], // 5 UE context release received
+    [0, 0, 0, 7, 0], // 6 handover cancel received
+    [0, 10, 10, 10, 0], // 7 reset request received
+    [0, 0, 0, 0, 0], // 8 reset response received
+    [14, 0, 0, 0, 0], // 9 start a handover
+    [0, 2, 2, 0, 0], // 10 cancel
+    [0, 0, 0, 8, 0], // 11 UE arrived
+    [0, 0, 5, 0, 0], // 12 UE returned
+    [0, 0, 0, 0, 9], // 13 UE left
+    [0, 10, 10, 10, 0], // 14 reset a neighbour
+    [0, 2, 4, 6, 0], // 15 tick
+    [0, 0, 0, 0, 0], // 16 bearer
+    [0, 0, 13, 0, 0], // 17 send SN status
 ];
 
-// Whether a record is the one that an event is about, by its kind's row of the table.
+// Whether the New ID is the record's, where it is compared.
+fn new_fits(compared: u8, e: Record, r: Entry) -> bool
+    ensures { λ x. ⌜ x ≡ newFits compared e r ⌝ }
+{
+    (compared == 0)
+        | (r.new.0 == e.new.0)
+        | ((compared == 2) & (r.state == 1))
+        | ((compared == 3) & (e.new.0 == 65535))
+}
+
+// Whether a record is the one that an event is about, by its kind's row of the table. Most records fall out by their IDs.
 pub(crate) fn is_about(e: Record, r: Entry, key: [u8; 5]) -> bool
     ensures { λ x. ⌜ x ≡ keyed (λ k. getD key k 0) e r ⌝ }
 {
-    (key[0] <= r.state)
-        & (r.state <= key[1])
-        & ((key[2] == 0) | (r.neighbour == e.neighbour))
-        & ((key[3] == 0) | (r.old.0 == e.old.0))
-        & ((key[4] == 0)
-            | (r.new.0 == e.new.0)
-            | ((key[4] == 2) & (r.state == 1))
-            | ((key[4] == 3) & (e.new.0 == 65535)))
+    if !((key[3] == 0) | (r.old.0 == e.old.0)) {
+        return false;
+    }
+    if !new_fits(key[4], e, r) {
+        return false;
+    }
+    (key[0] <= r.state) & (r.state <= key[1]) & ((key[2] == 0) | (r.neighbour == e.neighbour))
 }
 
 // A message: its kind, the neighbour it goes to, and the fields that kinds use.

@@ -2,29 +2,28 @@
 use records::Record;
 ghost use mathlib.Core.Path.{_≡_};
 ghost use lib.ListN.{getD};
-ghost use Rattle.table.specs.Fields.{isKind, isFilled, idsWithin, valuesWithin, othersZero, wellFormed};
+ghost use Rattle.table.specs.Fields.{isKind, isFilled, inRange, idsInRange, valuesInRange, othersZero, wellFormed};
 
-// The greatest value of each field of a kind, 0 where the kind does not use it: neighbour, Old, New, first set, second set,
-// reason, number, time.
-const LIMITS: [[u64; 8]; 18] = [
-    [0, 0, 0, 0, 0, 0, 0, 0],
-    [31, 4095, 0, 0, 0, 0, 256, 0],
-    [31, 4095, 4095, 65535, 65535, 0, 0, 0],
-    [31, 4095, 0, 0, 0, 255, 0, 0],
-    [31, 4095, 4095, 65535, 0, 0, 0, 0],
-    [31, 4095, 4095, 0, 0, 0, 0, 0],
-    [31, 4095, 4095, 0, 0, 255, 0, 0],
-    [31, 0, 0, 0, 0, 0, 0, 0],
-    [31, 0, 0, 0, 0, 0, 0, 0],
-    [31, 0, 0, 65535, 0, 0, 0, 0],
-    [0, 4095, 0, 0, 0, 0, 0, 0],
-    [0, 0, 4095, 0, 0, 0, 0, 0],
-    [0, 4095, 0, 0, 0, 0, 0, 0],
-    [0, 0, 4095, 0, 0, 0, 0, 0],
-    [31, 0, 0, 0, 0, 0, 0, 0],
-    [0, 0, 0, 0, 0, 0, 0, 1_000_000_000_000],
-    [0, 0, 0, 0, 0, 0, 0, 0],
-    [0, 4095, 0, 65535, 0, 0, 0, 0],
+// 1 for a field that a kind uses: neighbour, Old, New, first set, second set, reason, number, time.
+const USES: [[u8; 8]; 18] = [
+    [0, 0, 0, 0, 0, 0, 0, 0], // 0 no kind
+    [1, 1, 0, 0, 0, 0, 1, 0], // 1 handover request received
+    [1, 1, 1, 1, 1, 0, 0, 0], // 2 request acknowledge received
+    [1, 1, 0, 0, 0, 1, 0, 0], // 3 preparation failure received
+    [1, 1, 1, 1, 0, 0, 0, 0], // 4 SN status transfer received
+    [1, 1, 1, 0, 0, 0, 0, 0], // 5 UE context release received
+    [1, 1, 1, 0, 0, 1, 0, 0], // 6 handover cancel received
+    [1, 0, 0, 0, 0, 0, 0, 0], // 7 reset request received
+    [1, 0, 0, 0, 0, 0, 0, 0], // 8 reset response received
+    [1, 0, 0, 1, 0, 0, 0, 0], // 9 start a handover
+    [0, 1, 0, 0, 0, 0, 0, 0], // 10 cancel
+    [0, 0, 1, 0, 0, 0, 0, 0], // 11 UE arrived
+    [0, 1, 0, 0, 0, 0, 0, 0], // 12 UE returned
+    [0, 0, 1, 0, 0, 0, 0, 0], // 13 UE left
+    [1, 0, 0, 0, 0, 0, 0, 0], // 14 reset a neighbour
+    [0, 0, 0, 0, 0, 0, 0, 1], // 15 tick
+    [0, 0, 0, 0, 0, 0, 0, 0], // 16 bearer
+    [0, 1, 0, 1, 0, 0, 0, 0], // 17 send SN status
 ];
 
 // Kinds 1 to 15 and 17.
@@ -41,24 +40,31 @@ fn is_filled(e: Record) -> bool
     (!(e.kind == 9) | !(e.first == 0)) & (!(e.kind == 1) | !(e.number == 0))
 }
 
-// The neighbour and the IDs are within their limits.
-fn ids_within(e: Record, limits: [u64; 8]) -> bool
-    ensures { λ r. ⌜ r ≡ idsWithin (λ k. getD limits k 0) e ⌝ }
+// A field is zero, or used and at most its greatest value.
+fn in_range(used: u8, most: u64, value: u64) -> bool
+    ensures { λ r. ⌜ r ≡ inRange used most value ⌝ }
 {
-    (e.neighbour as u64 <= limits[0])
-        & (e.old.0 as u64 <= limits[1])
-        & ((e.new.0 as u64 <= limits[2]) | ((e.kind == 6) & (e.new.0 == 65535)))
+    (value == 0) | ((used == 1) & (value <= most))
 }
 
-// The sets, the reason, the number and the time are within their limits.
-fn values_within(e: Record, limits: [u64; 8]) -> bool
-    ensures { λ r. ⌜ r ≡ valuesWithin (λ k. getD limits k 0) e ⌝ }
+// The neighbour and the IDs are in range.
+fn ids_in_range(e: Record, uses: [u8; 8]) -> bool
+    ensures { λ r. ⌜ r ≡ idsInRange (λ k. getD uses k 0) e ⌝ }
 {
-    (e.first as u64 <= limits[3])
-        & (e.second as u64 <= limits[4])
-        & (e.reason as u64 <= limits[5])
-        & (e.number as u64 <= limits[6])
-        & (e.time <= limits[7])
+    in_range(uses[0], 31, e.neighbour as u64)
+        & in_range(uses[1], 4095, e.old.0 as u64)
+        & (in_range(uses[2], 4095, e.new.0 as u64) | ((e.kind == 6) & (e.new.0 == 65535)))
+}
+
+// The sets, the reason, the number and the time are in range.
+fn values_in_range(e: Record, uses: [u8; 8]) -> bool
+    ensures { λ r. ⌜ r ≡ valuesInRange (λ k. getD uses k 0) e ⌝ }
+{
+    in_range(uses[3], 65535, e.first as u64)
+        & in_range(uses[4], 65535, e.second as u64)
+        & in_range(uses[5], 255, e.reason as u64)
+        & in_range(uses[6], 256, e.number as u64)
+        & in_range(uses[7], 1_000_000_000_000, e.time)
 }
 
 // Bytes 11 and 24 to 31 are zero.
@@ -81,10 +87,10 @@ pub(crate) fn well_formed(e: Record) -> bool
     if 17 < kind {
         return false;
     }
-    let limits = LIMITS[kind];
+    let uses = USES[kind];
     is_kind(e.kind)
-        & ids_within(e, limits)
-        & values_within(e, limits)
+        & ids_in_range(e, uses)
+        & values_in_range(e, uses)
         & others_zero(e)
         & is_filled(e)
 }

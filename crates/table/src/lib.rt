@@ -26,15 +26,15 @@ use records::Record;
 use records::SIZE;
 ghost use mathlib.Core.Path.{_≡_};
 ghost use Prim.Native.Nat.{_-_, _/_, _≤_, _<_};
-ghost use mathlib.Core.Bool.{cond};
+ghost use mathlib.Core.Bool.{cond, _&&_, _||_};
 ghost use mathlib.Core.List.{[]};
 ghost use Rattle.bearers.specs.Admission.{judgeable, allFive};
 ghost use lib.ListN.{length, getD};
-ghost use Rattle.table.specs.Numbers.{isFree, blank as blankOf, ownIs, anyOf};
-ghost use Rattle.table.specs.Table.{find as findOf, betterBy, soonest as soonestOf, Puts, put as putOf, endedBy, reset as resetTo};
+ghost use Rattle.table.specs.Numbers.{isFree, ownIs, anyOf};
+ghost use Rattle.table.specs.Table.{find as findOf, dueBy, sooner, Puts, reset as resetTo};
 ghost use Rattle.table.specs.Sound.{Sound};
 ghost use Rattle.table.specs.Reached.{Reached};
-ghost use Rattle.table.specs.Step.{issue as issueOf, refused as refusedOf, carried as carriedOf, aboutOne, tickOf, startAt, resetOf, failure as failureOf, grantAt, admittedAt, verdictsAt, requestOf, requestVerdicts, eventOf, stepOf, verdictsOf, isTimer, fresh as freshOf, birthOf};
+ghost use Rattle.table.specs.Step.{issue as issueOf, quiet as quietOf, refused as refusedOf, carried as carriedOf, aboutOne, tickOf, startAt, resetOf, failure as failureOf, grantAt, admittedAt, verdictsAt, requestOf, requestVerdicts, stepOf, verdictsOf, isTimer, fresh as freshOf, birthOf};
 ghost use Rattle.table.specs.Events.{about};
 
 // A record of the table: 0 free, 1 preparing, 2 prepared, 3 held, 4 serving.
@@ -53,12 +53,12 @@ pub struct Entry {
 pub struct Station {
     entries: [Entry; 64],
     clock: u64,
-    last: u16,
     used: u32,
     capacity: u32,
     prep: u32,
     overall: u32,
     guard: u32,
+    last: u16,
 }
 
 // What a step answers: the message is all zeros if none is to be sent.
@@ -100,18 +100,28 @@ struct Decision {
     entry: Entry,
 }
 
-// The sooner of the best so far and a record at a place, if that is due.
-fn better(e: Record, key: [u8; 5], i: usize, r: Entry, best: Best) -> Best
-    ensures { λ b. ⌜ b ≡ betterBy (λ k. getD key k 0) e i r best ⌝ }
+// Whether a record is due, and sooner than the best so far. Most are not due: that is looked at first.
+fn is_sooner(e: Record, key: [u8; 5], r: Entry, best: Entry) -> bool
+    ensures { λ x. ⌜ x ≡ (dueBy (λ k. getD key k 0) e r && (isFree best || sooner r best)) ⌝ }
 {
+    if e.time < r.deadline {
+        return false;
+    }
     let mine = own(r);
-    let its = own(best.entry);
-    let sooner = (r.deadline < best.entry.deadline)
-        | ((r.deadline == best.entry.deadline) & (mine < its));
-    if is_about(e, r, key) & (r.deadline <= e.time) & ((best.entry.state == 0) | sooner) {
-        Best { place: i, entry: r }
-    } else {
-        best
+    let its = own(best);
+    let sooner = (r.deadline < best.deadline) | ((r.deadline == best.deadline) & (mine < its));
+    is_about(e, r, key) & ((best.state == 0) | sooner)
+}
+
+// A reply that changes nothing and sends nothing.
+fn quiet(reply: u8) -> Outcome
+    ensures { λ o. ⌜ o ≡ quietOf reply ⌝ }
+{
+    Outcome {
+        reply,
+        ending: 0,
+        count: 0,
+        message: silence(),
     }
 }
 
@@ -188,27 +198,6 @@ impl Station {
         Found::Nothing
     }
 
-    // The due record with the least deadline, then the least own ID.
-    fn soonest(self, e: Record) -> Found
-        requires { ⌜ (e .kind < 18) × (length (self .entries) ≡ 64) ⌝ }
-        ensures { λ r. ⌜ r ≡ soonestOf e self ⌝ }
-    {
-        let kind = e.kind as usize;
-        let key = KEYS[kind];
-        let mut best = Best {
-            place: 0,
-            entry: blank(),
-        };
-        for i in 0..64 {
-            best = better(e, key, i, self.entries[i], best);
-        }
-        if best.entry.state == 0 {
-            Found::Nothing
-        } else {
-            Found::At(best.place)
-        }
-    }
-
     // Whether a number is the own ID of a record.
     fn uses(self, id: u16) -> bool
         requires { ⌜ length (self .entries) ≡ 64 ⌝ }
@@ -239,40 +228,16 @@ impl Station {
         id
     }
 
-    // One record is replaced or ended.
-    fn put(mut self, i: usize, r: Entry) -> Station
-        requires { ⌜ Puts i r self ⌝ }
-        ensures { λ s. ⌜ s ≡ putOf i r self ⌝ }
-    {
-        let before = self.entries[i];
-        self.used = self.used - before.units + r.units;
-        self.entries[i] = r;
-        self
-    }
-
-    // A reply that changes nothing.
-    fn refused(self, reply: u8) -> Answer
-        ensures { λ a. ⌜ a ≡ refusedOf reply self ⌝ }
-    {
-        Answer {
-            outcome: Outcome {
-                reply,
-                ending: 0,
-                count: 0,
-                message: silence(),
-            },
-            station: self,
-        }
-    }
-
     // A decision about the record at a place is carried out.
-    fn carried(self, i: usize, d: Decision) -> Answer
+    fn carried(mut self, i: usize, d: Decision) -> Answer
         requires { ⌜ Puts i (d .entry) self ⌝ }
         ensures { λ a. ⌜ a ≡ carriedOf i d self ⌝ }
     {
+        let before = self.entries[i];
         let r = d.entry;
         let m = d.message;
-        let next = self.put(i, r);
+        self.used = self.used - before.units + r.units;
+        self.entries[i] = r;
         Answer {
             outcome: Outcome {
                 reply: d.reply,
@@ -280,7 +245,7 @@ impl Station {
                 count: 0,
                 message: m,
             },
-            station: next,
+            station: self,
         }
     }
 
@@ -289,34 +254,53 @@ impl Station {
         requires { ⌜ (e .kind < 18) × Sound self ⌝ }
         ensures { λ a. ⌜ a ≡ aboutOne e (findOf (about e) self) self ⌝ }
     {
-        let found = self.find(e);
-        match found {
-            Found::At(i) => {
-                let r = self.entries[i];
-                let d = decide(e, r, self.clock + self.overall as u64);
-                self.carried(i, d)
+        let kind = e.kind as usize;
+        let key = KEYS[kind];
+        for i in 0..64 {
+            let r = self.entries[i];
+            if is_about(e, r, key) {
+                return self.carried(i, decide(e, r, self.clock + self.overall as u64));
             }
-            Found::Nothing => self.refused(2),
+        }
+        Answer {
+            outcome: quiet(2),
+            station: self,
         }
     }
 
-    // A tick: the clock, and the soonest record that is due.
+    // A tick: the clock, and the due record with the least deadline, then the least own ID.
     fn tick(mut self, e: Record) -> Answer
         requires { ⌜ (e .kind < 18) × Sound self ⌝ }
         ensures { λ a. ⌜ a ≡ tickOf e self ⌝ }
     {
         if e.time < self.clock {
-            return self.refused(8);
+            return Answer {
+                outcome: quiet(8),
+                station: self,
+            };
         }
-        let found = self.soonest(e);
-        self.clock = e.time;
-        match found {
-            Found::At(i) => {
-                let r = self.entries[i];
-                self.carried(i, decide(e, r, 0))
+        let kind = e.kind as usize;
+        let key = KEYS[kind];
+        let mut best = Best {
+            place: 0,
+            entry: blank(),
+        };
+        for i in 0..64 {
+            let r = self.entries[i];
+            if is_sooner(e, key, r, best.entry) {
+                best = Best { place: i, entry: r };
             }
-            Found::Nothing => self.refused(9),
         }
+        self.clock = e.time;
+        if best.entry.state == 0 {
+            return Answer {
+                outcome: quiet(9),
+                station: self,
+            };
+        }
+        let i = best.place;
+        let r = self.entries[i];
+        self.carried(i, decide(e, r, 0))
     }
 
     // A start: a preparing record in the first free place.
@@ -350,20 +334,10 @@ impl Station {
                     station: self,
                 }
             }
-            Found::Nothing => self.refused(4),
-        }
-    }
-
-    // The record at a place ends, if a reset is about it.
-    fn ended(self, i: usize, e: Record, key: [u8; 5]) -> Station
-        requires { ⌜ Puts i blankOf self ⌝ }
-        ensures { λ s. ⌜ s ≡ endedBy (λ k. getD key k 0) i e self ⌝ }
-    {
-        let r = self.entries[i];
-        if is_about(e, r, key) {
-            self.put(i, blank())
-        } else {
-            self
+            Found::Nothing => Answer {
+                outcome: quiet(4),
+                station: self,
+            },
         }
     }
 
@@ -375,7 +349,11 @@ impl Station {
         let kind = e.kind as usize;
         let key = KEYS[kind];
         for i in 0..64 {
-            self = self.ended(i, e, key);
+            let r = self.entries[i];
+            if is_about(e, r, key) {
+                self.used = self.used - r.units;
+                self.entries[i] = blank();
+            }
         }
         self
     }
@@ -450,7 +428,10 @@ impl Station {
         ensures { λ a. ⌜ (a ≡ cond (judgeable (now (bearers .entry)) (length (now (verdicts .entry)))) (failureOf 4 e self) (refusedOf 1 self)) × (now (verdicts .exit) ≡ cond (judgeable (now (bearers .entry)) (length (now (verdicts .entry)))) (allFive (length (now (bearers .entry)) / 32) (now (verdicts .entry))) (now (verdicts .entry))) ⌝ }
     {
         if !can_judge(bearers, verdicts.len()) {
-            return self.refused(1);
+            return Answer {
+                outcome: quiet(1),
+                station: self,
+            };
         }
         refuse_all(bearers.len() / SIZE, verdicts);
         self.failure(4, e)
@@ -467,7 +448,10 @@ impl Station {
                 let judged = admit(bearers, self.capacity - self.used, verdicts);
                 match judged {
                     Judgement::Given(a) => self.grant(e, a, i),
-                    Judgement::Malformed => self.refused(1),
+                    Judgement::Malformed => Answer {
+                        outcome: quiet(1),
+                        station: self,
+                    },
                 }
             }
             Found::Nothing => self.full(e, bearers, verdicts),
@@ -481,33 +465,22 @@ impl Station {
     {
         let size = e.number as usize * SIZE;
         if bearers.len() < size {
-            return self.refused(1);
+            return Answer {
+                outcome: quiet(1),
+                station: self,
+            };
         }
         let found = self.find(e);
         match found {
             Found::At(_) => {
-                if can_judge(&bearers[..size], verdicts.len()) {
-                    self.refused(3)
-                } else {
-                    self.refused(1)
+                let judged = can_judge(&bearers[..size], verdicts.len());
+                let reply = if judged { 3 } else { 1 };
+                Answer {
+                    outcome: quiet(reply),
+                    station: self,
                 }
             }
             Found::Nothing => self.admitted(e, &bearers[..size], verdicts),
-        }
-    }
-
-    // An event that is well formed and no request.
-    fn event(self, e: Record) -> Answer
-        requires { ⌜ (e .kind < 18) × Sound self ⌝ }
-        ensures { λ a. ⌜ a ≡ eventOf e self ⌝ }
-    {
-        let kind = e.kind;
-        match kind {
-            9 => self.start(e),
-            15 => self.tick(e),
-            7 | 14 => self.reset_by(e),
-            8 => self.refused(0),
-            _ => self.about_one(e),
         }
     }
 
@@ -516,13 +489,28 @@ impl Station {
         requires { ⌜ Reached self ⌝ }
         ensures { λ a. ⌜ a ≡ stepOf self e [] 0 ⌝ }
     {
-        if !well_formed(e) {
-            return self.refused(1);
+        if !well_formed(e) | (e.kind == 1) {
+            return Answer {
+                outcome: quiet(1),
+                station: self,
+            };
         }
-        if e.kind == 1 {
-            return self.refused(1);
+        if e.kind == 9 {
+            return self.start(e);
         }
-        self.event(e)
+        if e.kind == 15 {
+            return self.tick(e);
+        }
+        if (e.kind == 7) | (e.kind == 14) {
+            return self.reset_by(e);
+        }
+        if e.kind == 8 {
+            return Answer {
+                outcome: quiet(0),
+                station: self,
+            };
+        }
+        self.about_one(e)
     }
 
     // One event with the bytes that follow it: a request takes its bearers from there, and their verdicts are written to the
@@ -531,12 +519,15 @@ impl Station {
         requires { ⌜ Reached self ⌝ }
         ensures { λ a. ⌜ (a ≡ stepOf self e (now (bearers .entry)) (length (now (verdicts .entry)))) × (now (verdicts .exit) ≡ verdictsOf self e (now (bearers .entry)) (now (verdicts .entry))) ⌝ }
     {
+        if !(e.kind == 1) {
+            return self.step(e);
+        }
         if !well_formed(e) {
-            return self.refused(1);
+            return Answer {
+                outcome: quiet(1),
+                station: self,
+            };
         }
-        if e.kind == 1 {
-            return self.requested(e, bearers, verdicts);
-        }
-        self.event(e)
+        self.requested(e, bearers, verdicts)
     }
 }

@@ -34,10 +34,13 @@ pub(crate) fn own(r: Entry) -> u16
     }
 }
 
-// Whether a number is a record's own ID.
+// Whether a number is a record's own ID. Most records have neither ID.
 pub(crate) fn own_is(id: u16, r: Entry) -> bool
     ensures { λ b. ⌜ b ≡ ownIs id r ⌝ }
 {
+    if !(r.old.0 == id) & !(r.new.0 == id) {
+        return false;
+    }
     ((1 <= r.state) & (r.state <= 2) & (r.old.0 == id)) | ((3 <= r.state) & (r.new.0 == id))
 }
 

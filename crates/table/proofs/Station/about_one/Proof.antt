@@ -1,72 +1,106 @@
--- What is found is a place of the table, and its decision is carried out there.
-use Prim.Native.Nat.{_<_}
-use mathlib.Core.Path.{_≡_, _∙_, sym, subst}
+-- What is found from here on is what is found in all, and its decision is carried out there.
+use Prim.Native.Nat.{_≤_, _-_}
+use mathlib.Core.Path.{_≡_, refl, _∙_, sym, subst}
 use native.Mathlib.Omega.{arith}
+use lib.ListN.{drop}
 use Rattle.table.specs.declared.Decision.{Decision}
-use Rattle.table.specs.declared.Found.the-variants.{At}
-use Rattle.table.specs.Events.{about, decide}
-use Rattle.table.specs.Step.{carried}
-use Rattle.table.specs.Table.{find, Puts}
-use Rattle.table.proofs.Placing.{found-place, decided-puts}
+use Rattle.table.specs.declared.Found.the-variants.{At, Nothing}
+use Rattle.table.specs.Events.{about}
+use Rattle.table.specs.Numbers.{blank}
+use Rattle.table.specs.Table.{find, findFrom, Puts}
+use Rattle.table.proofs.Finding.{find-here, find-past, find-end}
+use Rattle.table.proofs.Placing.{decided-puts}
 use borrow.Author.Needs.{needs}
 use Rattle.table.proofs.Station.about_one.Statement.{statement}
 use Rattle.table.proofs.Station.about_one.Tie as tie
 
-here : (c : tie.After-known-told) → find (about (c .before .before .before .before .args .e)) (c .before .before .before .before .args .t1) ≡ At (c .before .found .given .0 .0)
-here c = sym (c .before .before .before .find .ensures) ∙ c .before .found .given .1
+abbrev Inv-loop : tie.InvT-loop
+Inv-loop e self kind key i₀ i = (i ≤ 64) × (findFrom (about e) i (drop i (self .entries)) ≡ find (about e) self)
 
-place : (c : tie.After-known-told) → c .before .found .given .0 .0 < 64
-place c = found-place (c .before .before .before .before .args .t1) (c .before .before .before .before .pre .1) (about (c .before .before .before .before .args .e)) _ (here c)
+abbrev μ-loop : tie.MeasureT-loop
+μ-loop e self kind key i₀ i = 64 - i
 
-find-requires : tie.Need-find-requires
-find-requires c κs = search needs
+cast-kind : tie.Need-cast-kind Inv-loop μ-loop
+cast-kind c = search needs
 
-enum-known-found : tie.Need-enum-known-found
-enum-known-found c = search needs
+mul-key : tie.Need-mul-key Inv-loop μ-loop
+mul-key c = search needs
 
-mul-r : tie.Need-mul-r
-mul-r c = omega (arith, place c)
+array-copy-out-key : tie.Need-array-copy-out-key Inv-loop μ-loop
+array-copy-out-key c = search needs
 
-element-copy-out-r : tie.Need-element-copy-out-r
-element-copy-out-r c = place c
+loop-holds : tie.Need-loop-holds Inv-loop μ-loop
+loop-holds c = (omega arith, refl)
 
-cast-decide : tie.Need-cast-decide
+mul-r : tie.Need-mul-r Inv-loop μ-loop
+mul-r c = search needs
+
+element-copy-out-r : tie.Need-element-copy-out-r Inv-loop μ-loop
+element-copy-out-r c = search needs
+
+is-about-requires : tie.Need-is-about-requires Inv-loop μ-loop
+is-about-requires c κs = search needs
+
+cast-decide : tie.Need-cast-decide Inv-loop μ-loop
 cast-decide c = search needs
 
-add-decide : tie.Need-add-decide
+add-decide : tie.Need-add-decide Inv-loop μ-loop
 add-decide c = search needs
 
-decide-requires : tie.Need-decide-requires
-decide-requires c κs = (c .before .before .before .before .before .pre .0, c .before .before .before .before .before .pre .1 .fit (c .before .before .found .given .0 .0) (place (c .before)) .state)
+decide-requires : tie.Need-decide-requires Inv-loop μ-loop
+decide-requires c κs = (c .before .before .before .before .before .before .before .pre .0, c .before .before .before .before .before .before .before .pre .1 .fit (c .before .before .before .before .loop .i) (c .before .before .before .loop-test .taken) .state)
 
-carried-requires : tie.Need-carried-requires
-carried-requires c κs = subst (λ (d : Decision). Puts (c .before .before .before .found .given .0 .0) (d .entry) (c .before .before .before .before .before .before .args .t1)) (sym (c .decide .ensures)) (decided-puts (c .before .before .before .before .before .before .args .t1) (c .before .before .before .before .before .before .pre .1) (c .before .before .before .before .before .before .args .e) (c .before .before .before .found .given .0 .0) _ (place (c .before .before)))
+carried-requires : tie.Need-carried-requires Inv-loop μ-loop
+carried-requires c κs =
+    let a = c .before .before .before .before .before .before .before .before .args in
+    subst (λ (d : Decision). Puts (c .before .before .before .before .before .loop .i) (d .entry) (a .t1)) (sym (c .decide .ensures)) (decided-puts (a .t1) (c .before .before .before .before .before .before .before .before .pre .1) (a .e) (c .before .before .before .before .before .loop .i) _ (c .before .before .before .before .loop-test .taken))
 
-enum-told : tie.Need-enum-told
-enum-told c = search needs
+returns : tie.Need-returns Inv-loop μ-loop
+returns c =
+    let a = c .before .before .before .before .before .before .before .before .before .args in
+    let here : find (about (a .e)) (a .t1) ≡ At (c .before .before .before .before .before .before .loop .i) = sym (c .before .before .before .before .before .before .loop .inv .1) ∙ find-here (a .t1 .entries) (c .before .before .before .before .before .before .loop .i) blank (about (a .e)) (omega (arith, c .before .before .before .before .before .loop-test .taken, c .before .before .before .before .before .before .before .before .before .pre .1 .places)) (sym (c .before .before .before .is-about .ensures) ∙ c .before .before .if1 .taken) in
+    rw here (c .carried .ensures ∙ rw (c .before .decide .ensures))
 
-refused-requires : tie.Need-refused-requires
-refused-requires c κs = search needs
+add-i : tie.Need-add-i Inv-loop μ-loop
+add-i c = search needs
 
-returns : tie.Need-returns
-returns c = rw (here (c .before .before .before)) (c .carried .ensures ∙ rw (c .before .decide .ensures))
+loop-less : tie.Need-loop-less Inv-loop μ-loop
+loop-less c = search needs
 
-returns-2 : tie.Need-returns-2
-returns-2 c = rw (sym (c .before .before .before .find .ensures) ∙ c .before .enum-told .given .1) (c .refused .ensures)
+loop-again : tie.Need-loop-again Inv-loop μ-loop
+loop-again c =
+    let a = c .before .before .before .before .before .before .before .args in
+    (omega arith, sym (find-past (a .t1 .entries) (c .before .before .before .before .loop .i) blank (about (a .e)) (omega (arith, c .before .before .before .loop-test .taken, c .before .before .before .before .before .before .before .pre .1 .places)) (sym (c .before .is-about .ensures) ∙ c .if1 .left)) ∙ c .before .before .before .before .loop .inv .1)
+
+quiet-requires : tie.Need-quiet-requires Inv-loop μ-loop
+quiet-requires c κs = search needs
+
+returns-2 : tie.Need-returns-2 Inv-loop μ-loop
+returns-2 c =
+    let a = c .before .before .before .before .before .args in
+    let none : find (about (a .e)) (a .t1) ≡ Nothing = sym (c .before .before .loop .inv .1) ∙ find-end (a .t1 .entries) (c .before .before .loop .i) blank (about (a .e)) (omega (arith, c .before .loop-test .left, c .before .before .before .before .before .pre .1 .places)) in
+    rw (none, c .quiet .ensures)
 
 pub about-one-spec : {M : Type 1} → statement M
 about-one-spec =
     tie.close
     (tie.spec
-    find-requires
-    enum-known-found
+    Inv-loop
+    μ-loop
+    cast-kind
+    mul-key
+    array-copy-out-key
+    loop-holds
     mul-r
     element-copy-out-r
+    is-about-requires
     cast-decide
     add-decide
     decide-requires
     carried-requires
-    enum-told
-    refused-requires
     returns
+    add-i
+    loop-less
+    loop-again
+    quiet-requires
     returns-2)

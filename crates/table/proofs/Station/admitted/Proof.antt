@@ -52,8 +52,8 @@ grant-requires c κs =
 enum-told : tie.Need-enum-told
 enum-told c = search needs
 
-refused-requires : tie.Need-refused-requires
-refused-requires c κs = search needs
+quiet-requires : tie.Need-quiet-requires
+quiet-requires c κs = search needs
 
 enum-told-2 : tie.Need-enum-told-2
 enum-told-2 c = search needs
@@ -77,7 +77,7 @@ returns-2 : tie.Need-returns-2
 returns-2 c =
     let a = c .before .before .before .before .before .before .before .before .before .before .before .before .before .before .args in
     let bad = malformed (a .bearers .now) (a .self .capacity - a .self .used) (length (a .verdicts .now)) (sym (c .before .before .before .before .before .admit .ensures .0) ∙ c .before .enum-told .given .1) in
-    (rw bad (c .refused .ensures), rw bad (c .before .before .before .before .before .admit .ensures .1 ∙ rw bad))
+    (rw (bad, c .quiet .ensures), rw bad (c .before .before .before .before .before .admit .ensures .1 ∙ rw bad))
 
 same-length-3 : tie.Need-same-length-3
 same-length-3 c = search needs
@@ -98,7 +98,7 @@ admitted-spec =
     enum-known-judged
     grant-requires
     enum-told
-    refused-requires
+    quiet-requires
     enum-told-2
     full-requires
     same-length

@@ -8,11 +8,11 @@ use Rattle.table.proofs.Station.full.Tie as tie
 can-judge-requires : tie.Need-can-judge-requires
 can-judge-requires c κs = search needs
 
-refused-requires : tie.Need-refused-requires
-refused-requires c κs = search needs
+quiet-requires : tie.Need-quiet-requires
+quiet-requires c κs = search needs
 
 returns : tie.Need-returns
-returns c = (rw (sym (c .before .before .can-judge .ensures) ∙ not-true _ (c .before .if1 .taken)) (c .refused .ensures), rw (sym (c .before .before .can-judge .ensures) ∙ not-true _ (c .before .if1 .taken)))
+returns c = (rw (sym (c .before .before .can-judge .ensures) ∙ not-true _ (c .before .if1 .taken), c .quiet .ensures), rw (sym (c .before .before .can-judge .ensures) ∙ not-true _ (c .before .if1 .taken)))
 
 refuse-all-requires : tie.Need-refuse-all-requires
 refuse-all-requires c κs = search needs
@@ -31,7 +31,7 @@ full-spec =
     tie.close
     (tie.spec
     can-judge-requires
-    refused-requires
+    quiet-requires
     returns
     refuse-all-requires
     failure-requires

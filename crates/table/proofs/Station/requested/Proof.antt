@@ -1,6 +1,7 @@
 -- Too few bytes; a repeated request, of which only the bearers are looked at; or one to be judged.
 use borrow.Author.Tests.{le-leb, lt-leb}
 use Prim.Native.Nat.{_*_}
+use mathlib.Core.Logic.{⊎-elim}
 use mathlib.Core.Path.{_∙_, sym}
 use native.Mathlib.Omega.{arith}
 use lib.ListN.{length}
@@ -15,11 +16,11 @@ cast-size c = search needs
 mul-size : tie.Need-mul-size
 mul-size c = search needs
 
-refused-requires : tie.Need-refused-requires
-refused-requires c κs = search needs
+quiet-requires : tie.Need-quiet-requires
+quiet-requires c κs = search needs
 
 returns : tie.Need-returns
-returns c = (rw (lt-leb (c .before .before .before .before .before .args .e .number * 32) (length (c .before .before .before .before .before .args .bearers .now)) (c .before .if1 .taken)) (c .refused .ensures), rw (lt-leb (c .before .before .before .before .before .args .e .number * 32) (length (c .before .before .before .before .before .args .bearers .now)) (c .before .if1 .taken)))
+returns c = (rw (lt-leb (c .before .before .before .before .before .args .e .number * 32) (length (c .before .before .before .before .before .args .bearers .now)) (c .before .if1 .taken), c .quiet .ensures), rw (lt-leb (c .before .before .before .before .before .args .e .number * 32) (length (c .before .before .before .before .before .args .bearers .now)) (c .before .if1 .taken)))
 
 find-requires : tie.Need-find-requires
 find-requires c κs = search needs
@@ -33,11 +34,8 @@ slice-aggregate-can-judge c = sym (length-take-le _ (c .before .before .before .
 can-judge-requires : tie.Need-can-judge-requires
 can-judge-requires c κs = search needs
 
-refused-requires-2 : tie.Need-refused-requires-2
-refused-requires-2 c κs = search needs
-
-refused-requires-3 : tie.Need-refused-requires-3
-refused-requires-3 c κs = search needs
+quiet-requires-2 : tie.Need-quiet-requires-2
+quiet-requires-2 c κs = search needs
 
 enum-told-2 : tie.Need-enum-told-2
 enum-told-2 c = search needs
@@ -49,16 +47,25 @@ admitted-requires : tie.Need-admitted-requires
 admitted-requires c κs = search needs
 
 returns-2 : tie.Need-returns-2
-returns-2 c = (rw (le-leb (c .before .before .before .before .before .before .before .before .before .before .before .args .e .number * 32) (length (c .before .before .before .before .before .before .before .before .before .before .before .args .bearers .now)) (c .before .before .before .before .before .before .before .if1 .left), sym (c .before .before .can-judge .ensures) ∙ c .before .if2 .taken, sym (c .before .before .before .before .before .before .find .ensures) ∙ c .before .before .before .before .enum-told .given .1) (c .refused2 .ensures), rw (le-leb (c .before .before .before .before .before .before .before .before .before .before .before .args .e .number * 32) (length (c .before .before .before .before .before .before .before .before .before .before .before .args .bearers .now)) (c .before .before .before .before .before .before .before .if1 .left), sym (c .before .before .can-judge .ensures) ∙ c .before .if2 .taken, sym (c .before .before .before .before .before .before .find .ensures) ∙ c .before .before .before .before .enum-told .given .1))
-
-returns-3 : tie.Need-returns-3
-returns-3 c = (rw (le-leb (c .before .before .before .before .before .before .before .before .before .before .before .args .e .number * 32) (length (c .before .before .before .before .before .before .before .before .before .before .before .args .bearers .now)) (c .before .before .before .before .before .before .before .if1 .left), sym (c .before .before .can-judge .ensures) ∙ c .before .if2 .left) (c .refused3 .ensures), rw (le-leb (c .before .before .before .before .before .before .before .before .before .before .before .args .e .number * 32) (length (c .before .before .before .before .before .before .before .before .before .before .before .args .bearers .now)) (c .before .before .before .before .before .before .before .if1 .left), sym (c .before .before .can-judge .ensures) ∙ c .before .if2 .left))
+returns-2 c =
+    let a = c .before .before .before .before .before .before .before .before .before .before .before .args in
+    let enough = le-leb (a .e .number * 32) (length (a .bearers .now)) (c .before .before .before .before .before .before .before .if1 .left) in
+    let there = sym (c .before .before .before .before .before .before .find .ensures) ∙ c .before .before .before .before .enum-told .given .1 in (
+      ⊎-elim
+          (λ t. rw (enough, sym (c .before .before .can-judge .ensures) ∙ t .0 .taken, there, c .quiet2 .ensures, t .1))
+          (λ t. rw (enough, sym (c .before .before .can-judge .ensures) ∙ t .0 .left, c .quiet2 .ensures, t .1))
+          (c .before .if2 .came),
+      ⊎-elim
+          (λ t. rw (enough, sym (c .before .before .can-judge .ensures) ∙ t .0 .taken, there))
+          (λ t. rw (enough, sym (c .before .before .can-judge .ensures) ∙ t .0 .left))
+          (c .before .if2 .came),
+    )
 
 same-length : tie.Need-same-length
 same-length c = search needs
 
-returns-4 : tie.Need-returns-4
-returns-4 c = (rw (le-leb (c .before .before .before .before .before .before .before .before .before .before .before .before .args .e .number * 32) (length (c .before .before .before .before .before .before .before .before .before .before .before .before .args .bearers .now)) (c .before .before .before .before .before .before .before .before .if1 .left), sym (c .before .before .before .before .before .before .before .find .ensures) ∙ c .before .before .before .before .before .enum-told2 .given .1) (c .before .before .admitted .ensures .0), rw (le-leb (c .before .before .before .before .before .before .before .before .before .before .before .before .args .e .number * 32) (length (c .before .before .before .before .before .before .before .before .before .before .before .before .args .bearers .now)) (c .before .before .before .before .before .before .before .before .if1 .left), sym (c .before .before .before .before .before .before .before .find .ensures) ∙ c .before .before .before .before .before .enum-told2 .given .1) (c .before .before .admitted .ensures .1))
+returns-3 : tie.Need-returns-3
+returns-3 c = (rw (le-leb (c .before .before .before .before .before .before .before .before .before .before .before .before .args .e .number * 32) (length (c .before .before .before .before .before .before .before .before .before .before .before .before .args .bearers .now)) (c .before .before .before .before .before .before .before .before .if1 .left), sym (c .before .before .before .before .before .before .before .find .ensures) ∙ c .before .before .before .before .before .enum-told2 .given .1) (c .before .before .admitted .ensures .0), rw (le-leb (c .before .before .before .before .before .before .before .before .before .before .before .before .args .e .number * 32) (length (c .before .before .before .before .before .before .before .before .before .before .before .before .args .bearers .now)) (c .before .before .before .before .before .before .before .before .if1 .left), sym (c .before .before .before .before .before .before .before .find .ensures) ∙ c .before .before .before .before .before .enum-told2 .given .1) (c .before .before .admitted .ensures .1))
 
 pub requested-spec : {M : Type 1} → statement M
 requested-spec =
@@ -66,18 +73,16 @@ requested-spec =
     (tie.spec
     cast-size
     mul-size
-    refused-requires
+    quiet-requires
     returns
     find-requires
     enum-told
     slice-aggregate-can-judge
     can-judge-requires
-    refused-requires-2
-    refused-requires-3
+    quiet-requires-2
     enum-told-2
     slice-aggregate-admitted
     admitted-requires
     returns-2
-    returns-3
     same-length
-    returns-4)
+    returns-3)

@@ -1,21 +1,28 @@
 -- What is left of the table, with the records passed reset, is what a reset leaves.
 use Prim.Native.Nat.{_≤_, _-_}
+use mathlib.Core.Logic.{⊎-elim}
 use mathlib.Core.Path.{_≡_, _∙_, sym, ap, subst}
+use native.Mathlib.Nat.{add-zero}
 use native.Mathlib.Omega.{arith}
+use lib.ListN.{getD}
 use Rattle.table.specs.declared.Station.{Station}
 use Rattle.table.specs.Events.{key}
 use Rattle.table.specs.Numbers.{blank}
-use Rattle.table.specs.Table.{Puts, endedBy}
-use Rattle.table.proofs.Resetting.{partly, partly-none, partly-all, partly-puts, partly-next}
+use Rattle.table.specs.Table.{Puts}
+use Rattle.table.proofs.Resetting.{endedBy, partly, partly-none, partly-all, partly-puts, partly-next}
 use borrow.Author.Needs.{needs}
 use Rattle.table.proofs.Station.reset.Statement.{statement}
 use Rattle.table.proofs.Station.reset.Tie as tie
 
 abbrev Inv-loop : tie.InvT-loop
-Inv-loop self₀ e kind key i₀ self i = (i ≤ 64) × (self ≡ partly e i self₀)
+Inv-loop e self₀ kind key i₀ self i = (i ≤ 64) × (self ≡ partly e i self₀)
 
 abbrev μ-loop : tie.MeasureT-loop
-μ-loop self₀ e kind key i₀ self i = 64 - i
+μ-loop e self₀ kind key i₀ self i = 64 - i
+
+-- the record at the place can be ended
+ends : (c : tie.In-loop Inv-loop μ-loop) → Puts (c .before .loop .i) blank (c .before .loop .self)
+ends c = subst (λ (s : Station). Puts (c .before .loop .i) blank s) (sym (c .before .loop .inv .1)) (partly-puts (c .before .before .before .before .args .e) (c .before .before .before .before .args .t1) (c .before .before .before .before .pre .1) (c .before .loop .i) (c .loop-test .taken))
 
 cast-kind : tie.Need-cast-kind Inv-loop μ-loop
 cast-kind c = search needs
@@ -27,10 +34,28 @@ array-copy-out-key : tie.Need-array-copy-out-key Inv-loop μ-loop
 array-copy-out-key c = search needs
 
 loop-holds : tie.Need-loop-holds Inv-loop μ-loop
-loop-holds c = (omega arith, partly-none (c .before .before .args .e) (c .before .before .args .self) (c .before .before .pre .1))
+loop-holds c = (omega arith, partly-none (c .before .before .args .e) (c .before .before .args .t1) (c .before .before .pre .1))
 
-ended-requires : tie.Need-ended-requires Inv-loop μ-loop
-ended-requires c κs = subst (λ (s : Station). Puts (c .before .loop .i) blank s) (sym (c .before .loop .inv .1)) (partly-puts (c .before .before .before .before .args .e) (c .before .before .before .before .args .self) (c .before .before .before .before .pre .1) (c .before .loop .i) (c .loop-test .taken))
+mul-r : tie.Need-mul-r Inv-loop μ-loop
+mul-r c = search needs
+
+element-copy-out-r : tie.Need-element-copy-out-r Inv-loop μ-loop
+element-copy-out-r c = search needs
+
+is-about-requires : tie.Need-is-about-requires Inv-loop μ-loop
+is-about-requires c κs = search needs
+
+sub-self : tie.Need-sub-self Inv-loop μ-loop
+sub-self c = ends (c .before .before .before .before) .back
+
+blank-requires : tie.Need-blank-requires Inv-loop μ-loop
+blank-requires c κs = search needs
+
+mul-t40 : tie.Need-mul-t40 Inv-loop μ-loop
+mul-t40 c = search needs
+
+element-set-from-self : tie.Need-element-set-from-self Inv-loop μ-loop
+element-set-from-self c = search needs
 
 add-i : tie.Need-add-i Inv-loop μ-loop
 add-i c = search needs
@@ -39,12 +64,17 @@ loop-less : tie.Need-loop-less Inv-loop μ-loop
 loop-less c = search needs
 
 loop-again : tie.Need-loop-again Inv-loop μ-loop
-loop-again c = (omega arith, c .ended .ensures ∙ ap (endedBy (key (c .before .before .before .before .before .args .e .kind)) (c .before .before .loop .i) (c .before .before .before .before .before .args .e)) (c .before .before .loop .inv .1) ∙ partly-next (c .before .before .before .before .before .args .e) (c .before .before .before .before .before .args .self) (c .before .before .before .before .before .pre .1) (c .before .before .loop .i) (c .before .loop-test .taken))
+loop-again c =
+    let a = c .before .before .before .before .before .before .before .args in
+    let l = c .before .before .before .before .loop in
+    let next : c .if1 .self ≡ endedBy (key (a .e .kind)) (l .i) (a .e) (l .self) =
+    ⊎-elim (λ t. t .3 ∙ sym (rw (sym (c .before .is-about .ensures) ∙ t .0 .taken, t .2 .ensures, add-zero (l .self .used - getD (l .self .entries) (l .i) blank .units)))) (λ t. t .1 ∙ sym (rw (sym (c .before .is-about .ensures) ∙ t .0 .left))) (c .if1 .came) in
+    (omega arith, next ∙ ap (endedBy (key (a .e .kind)) (l .i) (a .e)) (l .inv .1) ∙ partly-next (a .e) (a .t1) (c .before .before .before .before .before .before .before .pre .1) (l .i) (c .before .before .before .loop-test .taken))
 
 returns : tie.Need-returns Inv-loop μ-loop
 returns c =
     let all : c .before .loop .i ≡ 64 = omega arith in
-    rw all at (c .before .loop .inv .1) ∙ partly-all (c .before .before .before .before .args .e) (c .before .before .before .before .args .self) (c .before .before .before .before .pre .1)
+    rw all at (c .before .loop .inv .1) ∙ partly-all (c .before .before .before .before .args .e) (c .before .before .before .before .args .t1) (c .before .before .before .before .pre .1)
 
 pub reset-spec : {M : Type 1} → statement M
 reset-spec =
@@ -56,7 +86,13 @@ reset-spec =
     mul-key
     array-copy-out-key
     loop-holds
-    ended-requires
+    mul-r
+    element-copy-out-r
+    is-about-requires
+    sub-self
+    blank-requires
+    mul-t40
+    element-set-from-self
     add-i
     loop-less
     loop-again

@@ -45,14 +45,14 @@ message-requires c κs = search needs
 enum-told : tie.Need-enum-told
 enum-told c = search needs
 
-refused-requires : tie.Need-refused-requires
-refused-requires c κs = search needs
+quiet-requires : tie.Need-quiet-requires
+quiet-requires c κs = search needs
 
 returns : tie.Need-returns
 returns c = rw (here (c .before .before), c .message .ensures, c .before .issue .ensures .0, add-zero (c .before .before .before .before .before .before .args .t1 .used))
 
 returns-2 : tie.Need-returns-2
-returns-2 c = rw (sym (c .before .before .before .vacant .ensures) ∙ c .before .enum-told .given .1) (c .refused .ensures)
+returns-2 c = rw (sym (c .before .before .before .vacant .ensures) ∙ c .before .enum-told .given .1, c .quiet .ensures)
 
 pub start-spec : {M : Type 1} → statement M
 start-spec =
@@ -67,6 +67,6 @@ start-spec =
     element-set-from-self
     message-requires
     enum-told
-    refused-requires
+    quiet-requires
     returns
     returns-2)

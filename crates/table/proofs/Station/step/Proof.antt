@@ -1,12 +1,14 @@
--- Malformed, a request without its bearers, or another event.
-use borrow.Author.Tests.{eq-eqb, ne-eqb, not-true, not-false}
-use mathlib.Core.Bool.{false, and-false}
+-- Malformed, a request without its bearers, or each other kind.
+use borrow.Author.Tests.{eq-eqb, ne-eqb, not-false}
+use mathlib.Core.Bool.{Bool, true, false, _||_, and-false, true≢false}
 use mathlib.Core.List.{[]}
-use mathlib.Core.Path.{_≡_, _∙_, sym}
+use mathlib.Core.Path.{_≡_, refl, _∙_, sym}
 use Prim.Native.Nat.{_*_}
-use lib.Dec.{leb}
+use lib.Dec.{leb, eqb}
 use lib.Seq.{take-nil}
+use Rattle.laws.proofs.Tests.{by-cases}
 use Rattle.records.specs.declared.Record.{Record}
+use Rattle.table.specs.Fields.{wellFormed}
 use Rattle.table.specs.Step.{complete}
 use Rattle.table.proofs.Forms.{kind-small}
 use Rattle.table.proofs.Soundness.{sound}
@@ -18,35 +20,75 @@ use Rattle.table.proofs.Station.step.Tie as tie
 lacking : (e : Record) → complete e [] 0 ≡ false
 lacking e = rw (take-nil (e .number * 32)) (and-false (leb (e .number * 32) 0))
 
+neither : (a b : Bool) → (a || b) ≡ false → (a ≡ false) × (b ≡ false)
+neither false b t = (refl, t)
+neither true b t = absurd (true≢false t)
+
+-- what goes on is well formed and no request
+other : (c : tie.Else1) → (wellFormed (c .before .before .before .args .e) ≡ true) × (eqb (c .before .before .before .args .e .kind) 1 ≡ false)
+other c =
+    let both = neither _ (eqb (c .before .before .before .args .e .kind) 1) (c .if1 .left) in
+    (sym (c .before .before .well-formed .ensures) ∙ not-false _ (both .0), both .1)
+
 well-formed-requires : tie.Need-well-formed-requires
 well-formed-requires c κs = search needs
 
-refused-requires : tie.Need-refused-requires
-refused-requires c κs = search needs
+quiet-requires : tie.Need-quiet-requires
+quiet-requires c κs = search needs
 
 returns : tie.Need-returns
-returns c = rw (sym (c .before .before .well-formed .ensures) ∙ not-true _ (c .before .if1 .taken)) (c .refused .ensures)
+returns c =
+    let e = c .before .before .before .before .args .e in
+    by-cases (wellFormed e)
+    (λ w.
+    let one : eqb (e .kind) 1 ≡ true = rw (c .before .before .before .well-formed .ensures, w) at (c .before .if1 .taken) in
+    rw (w, one, lacking e, c .quiet .ensures))
+    (λ w. rw (w, c .quiet .ensures))
 
-refused-requires-2 : tie.Need-refused-requires-2
-refused-requires-2 c κs = search needs
+start-requires : tie.Need-start-requires
+start-requires c κs = sound (c .before .before .before .before .before .pre)
 
 returns-2 : tie.Need-returns-2
-returns-2 c = rw (sym (c .before .before .before .before .well-formed .ensures) ∙ not-false _ (c .before .before .before .if1 .left), eq-eqb (c .before .before .before .before .before .args .e .kind) 1 (c .before .if2 .taken), lacking (c .before .before .before .before .before .args .e)) (c .refused2 .ensures)
+returns-2 c = rw (other (c .before .before .before) .0, other (c .before .before .before) .1, eq-eqb (c .before .before .before .before .before .before .args .e .kind) 9 (c .before .if2 .taken)) (c .start .ensures)
 
-event-requires : tie.Need-event-requires
-event-requires c κs = (kind-small (c .before .before .before .before .args .e) (sym (c .before .before .before .well-formed .ensures) ∙ not-false _ (c .before .before .if1 .left)), sound (c .before .before .before .before .pre))
+tick-requires : tie.Need-tick-requires
+tick-requires c κs = (kind-small (c .before .before .before .before .before .before .before .args .e) (other (c .before .before .before .before) .0), sound (c .before .before .before .before .before .before .before .pre))
 
 returns-3 : tie.Need-returns-3
-returns-3 c = rw (sym (c .before .before .before .before .well-formed .ensures) ∙ not-false _ (c .before .before .before .if1 .left), ne-eqb (c .before .before .before .before .before .args .e .kind) 1 (c .before .if2 .left)) (c .event .ensures)
+returns-3 c = rw (other (c .before .before .before .before .before) .0, other (c .before .before .before .before .before) .1, ne-eqb (c .before .before .before .before .before .before .before .before .args .e .kind) 9 (c .before .before .before .if2 .left), eq-eqb (c .before .before .before .before .before .before .before .before .args .e .kind) 15 (c .before .if3 .taken)) (c .tick .ensures)
+
+reset-by-requires : tie.Need-reset-by-requires
+reset-by-requires c κs = (kind-small (c .before .before .before .before .before .before .before .before .before .before .args .e) (other (c .before .before .before .before .before .before .before) .0), sound (c .before .before .before .before .before .before .before .before .before .before .pre))
+
+returns-4 : tie.Need-returns-4
+returns-4 c = rw (other (c .before .before .before .before .before .before .before .before) .0, other (c .before .before .before .before .before .before .before .before) .1, ne-eqb (c .before .before .before .before .before .before .before .before .before .before .before .args .e .kind) 9 (c .before .before .before .before .before .before .if2 .left), ne-eqb (c .before .before .before .before .before .before .before .before .before .before .before .args .e .kind) 15 (c .before .before .before .before .if3 .left), c .before .if4 .taken) (c .reset-by .ensures)
+
+quiet-requires-2 : tie.Need-quiet-requires-2
+quiet-requires-2 c κs = search needs
+
+returns-5 : tie.Need-returns-5
+returns-5 c = rw (other (c .before .before .before .before .before .before .before .before .before .before) .0, other (c .before .before .before .before .before .before .before .before .before .before) .1, ne-eqb (c .before .before .before .before .before .before .before .before .before .before .before .before .before .args .e .kind) 9 (c .before .before .before .before .before .before .before .before .if2 .left), ne-eqb (c .before .before .before .before .before .before .before .before .before .before .before .before .before .args .e .kind) 15 (c .before .before .before .before .before .before .if3 .left), c .before .before .before .if4 .left, eq-eqb (c .before .before .before .before .before .before .before .before .before .before .before .before .before .args .e .kind) 8 (c .before .if5 .taken), c .quiet2 .ensures)
+
+about-one-requires : tie.Need-about-one-requires
+about-one-requires c κs = (kind-small (c .before .before .before .before .before .before .before .before .before .before .before .before .args .e) (other (c .before .before .before .before .before .before .before .before .before) .0), sound (c .before .before .before .before .before .before .before .before .before .before .before .before .pre))
+
+returns-6 : tie.Need-returns-6
+returns-6 c = rw (other (c .before .before .before .before .before .before .before .before .before .before) .0, other (c .before .before .before .before .before .before .before .before .before .before) .1, ne-eqb (c .before .before .before .before .before .before .before .before .before .before .before .before .before .args .e .kind) 9 (c .before .before .before .before .before .before .before .before .if2 .left), ne-eqb (c .before .before .before .before .before .before .before .before .before .before .before .before .before .args .e .kind) 15 (c .before .before .before .before .before .before .if3 .left), c .before .before .before .if4 .left, ne-eqb (c .before .before .before .before .before .before .before .before .before .before .before .before .before .args .e .kind) 8 (c .before .if5 .left)) (c .about-one .ensures)
 
 pub step-spec : {M : Type 1} → statement M
 step-spec =
     tie.close
     (tie.spec
     well-formed-requires
-    refused-requires
+    quiet-requires
     returns
-    refused-requires-2
+    start-requires
     returns-2
-    event-requires
-    returns-3)
+    tick-requires
+    returns-3
+    reset-by-requires
+    returns-4
+    quiet-requires-2
+    returns-5
+    about-one-requires
+    returns-6)

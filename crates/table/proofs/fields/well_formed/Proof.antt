@@ -11,20 +11,20 @@ cast-kind c = search needs
 returns : tie.Need-returns
 returns c = rw (le-leb 1 (c .before .before .args .e .kind) (omega arith), lt-leb (c .before .before .args .e .kind) 15 (omega arith), ne-eqb (c .before .before .args .e .kind) 17 (λ e. omega arith))
 
-mul-limits : tie.Need-mul-limits
-mul-limits c = search needs
+mul-uses : tie.Need-mul-uses
+mul-uses c = search needs
 
-array-copy-out-limits : tie.Need-array-copy-out-limits
-array-copy-out-limits c = search needs
+array-copy-out-uses : tie.Need-array-copy-out-uses
+array-copy-out-uses c = search needs
 
 is-kind-requires : tie.Need-is-kind-requires
 is-kind-requires c κs = search needs
 
-ids-within-requires : tie.Need-ids-within-requires
-ids-within-requires c κs = search needs
+ids-in-range-requires : tie.Need-ids-in-range-requires
+ids-in-range-requires c κs = search needs
 
-values-within-requires : tie.Need-values-within-requires
-values-within-requires c κs = search needs
+values-in-range-requires : tie.Need-values-in-range-requires
+values-in-range-requires c κs = search needs
 
 others-zero-requires : tie.Need-others-zero-requires
 others-zero-requires c κs = search needs
@@ -33,7 +33,7 @@ is-filled-requires : tie.Need-is-filled-requires
 is-filled-requires c κs = search needs
 
 returns-2 : tie.Need-returns-2
-returns-2 c = rw (c .before .before .before .before .is-kind .ensures, c .before .before .before .ids-within .ensures, c .before .before .values-within .ensures, c .before .others-zero .ensures, c .is-filled .ensures)
+returns-2 c = rw (c .before .before .before .before .is-kind .ensures, c .before .before .before .ids-in-range .ensures, c .before .before .values-in-range .ensures, c .before .others-zero .ensures, c .is-filled .ensures)
 
 pub well-formed-spec : {M : Type 1} → statement M
 well-formed-spec =
@@ -41,11 +41,11 @@ well-formed-spec =
     (tie.spec
     cast-kind
     returns
-    mul-limits
-    array-copy-out-limits
+    mul-uses
+    array-copy-out-uses
     is-kind-requires
-    ids-within-requires
-    values-within-requires
+    ids-in-range-requires
+    values-in-range-requires
     others-zero-requires
     is-filled-requires
     returns-2)
