@@ -13,12 +13,13 @@ use Rattle.laws.proofs.Tests.{both-true}
 use Rattle.records.specs.declared.Record.{Record}
 use Rattle.bearers.specs.declared.Bearer.{Bearer}
 use Rattle.bearers.specs.declared.Survey.{Survey}
-use Rattle.bearers.specs.Admission.{total, those, occurs, hasTurn, release8, turnsFrom, turns, verdict, admitted, refused, idsOf}
+use Rattle.bearers.specs.Admission.{total, those, occurs, hasTurn, release8, turns, verdict, admitted, refused, idsOf}
 use Rattle.bearers.specs.Bearer.{isBearer, bearerOf, allBearers}
-use Rattle.bearers.specs.Working.{alone, Surveyed, firstsOf, clear, run, settledBy, refusedBy, written}
+use Rattle.bearers.specs.Working.{alone, Surveyed, firstsOf, clear, run, sorted, settledBy, refusedBy, written}
 use Rattle.bearers.proofs.Admitted.{granted-ids, verdict-member}
 use Rattle.bearers.proofs.Firsts.{same-ids}
 use Rattle.bearers.proofs.Granted.{Formed, units, grants, granted, run-granted, granted-total, turn-once}
+use Rattle.bearers.proofs.Laws.{priority-first}
 use Rattle.bearers.proofs.Listing.{formed}
 use Rattle.bearers.proofs.Sums.{Each, each-split, each-place, each-at, each-here, each-map, map-each, those-each, those-wider}
 use Rattle.bearers.proofs.Writing.{written-all}
@@ -32,9 +33,9 @@ each-formed (r ∷ rs) t =
     (formed r (both .0), each-formed rs (both .1))
 
 module _ (free : ℕ) (bs : List Bearer) (each : Each Formed bs) (s : Survey) (known : Surveyed bs s) where
-  -- The scratch table has the turns of the request.
-  pub turns-known : turnsFrom 15 1 (those (clear s) (firstsOf s)) ≡ turns release8 bs
-  turns-known = ap (turnsFrom 15 1) (those-each (clear s) test (firstsOf s) first ∙ sym (of-only (firstsOf s)) ∙ ap (those test) (known .only) ∙ of-only bs)
+  -- The scratch table's turns, sorted, are those of the request.
+  turns-known : sorted (those (clear s) (firstsOf s)) ≡ turns release8 bs
+  turns-known = ap sorted (those-each (clear s) test (firstsOf s) first ∙ sym (of-only (firstsOf s)) ∙ ap (those test) (known .only) ∙ of-only bs) ∙ sym (priority-first release8 free bs each)
     where
       test : Bearer → Bool
       test = hasTurn release8 bs
@@ -100,7 +101,7 @@ module _ (free : ℕ) (bs : List Bearer) (each : Each Formed bs) (s : Survey) (k
       (those-each (λ b. not (eqb (settledBy s (idsOf (admitted release8 free bs)) b) 0)) (λ b. not (eqb (verdict release8 free bs b) 0)) bs
       (each-map _ _ bs (λ b e. ap (λ (v : ℕ). not (eqb v 0)) e) settled-each))
 
-  -- What the rounds leave.
-  pub rounds-leave : run (turnsFrom 15 1 (those (clear s) (firstsOf s))) (grants 0 free) ≡ grants (idsOf (admitted release8 free bs)) (free - total units (admitted release8 free bs))
-  rounds-leave =
+  -- What the walk through them leaves.
+  pub walk-leaves : run (sorted (those (clear s) (firstsOf s))) (grants 0 free) ≡ grants (idsOf (admitted release8 free bs)) (free - total units (admitted release8 free bs))
+  walk-leaves =
       rw (turns-known, run-granted (turns release8 bs) 0 free, or-zero-l (idsOf (granted (turns release8 bs) free)), granted-ids release8 free bs each, granted-total release8 free bs each units)
