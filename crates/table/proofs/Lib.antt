@@ -1,5 +1,6 @@
 pub mod Answers
 pub mod Bounds
+pub mod Cases
 pub mod Changes
 pub mod Counting
 pub mod Deciding
