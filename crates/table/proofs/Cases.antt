@@ -41,10 +41,10 @@ start-wraps s e bearers room i formed kind found last used unused =
     rw (start-step s e bearers room formed i kind found, issue-wraps s last used unused)
 
 -- A fresh station comes to one: a start leaves own 0 preparing; and each start and its cancel after it issue one number more.
-in-bytes : (kind neighbour old first : ℕ) → kind ≤ 255 → neighbour ≤ 255 → old ≤ 4095 → first ≤ 255 → InRange (message kind neighbour old 0 first 0 0)
+pub in-bytes : (kind neighbour old first : ℕ) → kind ≤ 255 → neighbour ≤ 255 → old ≤ 4095 → first ≤ 255 → InRange (message kind neighbour old 0 first 0 0)
 in-bytes kind neighbour old first k n o f = record { kind = omega arith; neighbour = omega arith; old = omega arith; new = omega arith; first = omega arith; second = omega arith; reason = omega arith; byte11 = omega arith; number = omega arith; time = omega arith; erab = omega arith; qci = omega arith; priority = omega arith; flags = omega arith; bytes28 = omega arith }
 
-start-small : InRange (start .event)
+pub start-small : InRange (start .event)
 start-small = in-bytes 9 3 0 32 (omega arith) (omega arith) (omega arith) (omega arith)
 
 cancel-small : (n : ℕ) → n ≤ 4095 → InRange (cancel n .event)
@@ -95,7 +95,7 @@ cancelled-second n h =
     (ap (λ (b : Bool). cond (b && true) (At 0) (cond (eqb (suc n) (suc n) && true) (At 1) Nothing)) (ne-eqb 0 (suc n) (λ e. omega arith))
     ∙ ap (λ (b : Bool). cond (b && true) (At 1) Nothing) (eq-eqb (suc n) (suc n) refl)) refl)
 
-issued : (n : ℕ) → n ≤ 4095 → Reached (issuedLast n)
+pub issued : (n : ℕ) → n ≤ 4095 → Reached (issuedLast n)
 unfolding findFrom anyOf issueFrom
 issued zero h = stepped (born 100 50 2000 3000) (start .event) start-small [] 0
 issued (suc n) h =

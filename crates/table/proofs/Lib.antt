@@ -8,6 +8,7 @@ pub mod Finding
 pub mod Fits
 pub mod Forms
 pub mod Guests
+pub mod Impostors
 pub mod Interface
 pub mod Issuing
 pub mod Keys

@@ -7,3 +7,4 @@ pub mod Step
 pub mod Reached
 pub mod Views
 pub mod Cases
+pub mod Impostors
