@@ -1,6 +1,7 @@
 pub mod Blocks
 pub mod Digits
 pub mod Going
+pub mod Once
 pub mod Turning
 pub mod Within
 pub mod Writing
