@@ -1,5 +1,6 @@
 pub mod Blocks
 pub mod Digits
+pub mod Example
 pub mod Going
 pub mod Once
 pub mod Reading

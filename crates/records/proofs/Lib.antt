@@ -1,4 +1,5 @@
 pub mod Cutting
+pub mod Examples
 pub mod Little
 pub mod Once
 pub mod Rest
