@@ -6,6 +6,7 @@ pub mod Laws
 pub mod Listing
 pub mod Looking
 pub mod Membership
+pub mod Once
 pub mod Placing
 pub mod Sorting
 pub mod Sums

@@ -1,6 +1,9 @@
 pub mod Blocks
 pub mod Digits
+pub mod Example
 pub mod Going
+pub mod Once
+pub mod Reading
 pub mod Turning
 pub mod Within
 pub mod Writing

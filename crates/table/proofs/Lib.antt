@@ -1,5 +1,6 @@
 pub mod Answers
 pub mod Bounds
+pub mod Cases
 pub mod Changes
 pub mod Counting
 pub mod Deciding
@@ -7,6 +8,7 @@ pub mod Finding
 pub mod Fits
 pub mod Forms
 pub mod Guests
+pub mod Impostors
 pub mod Interface
 pub mod Issuing
 pub mod Keys

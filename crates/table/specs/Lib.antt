@@ -6,3 +6,5 @@ pub mod Sound
 pub mod Step
 pub mod Reached
 pub mod Views
+pub mod Cases
+pub mod Impostors

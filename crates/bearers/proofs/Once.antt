@@ -1,0 +1,48 @@
+-- Two results that satisfy a contract are equal: what each public entry gives is settled by its arguments.
+use Prim.Native.Nat.{ℕ}
+use mathlib.Core.Path.{_≡_, sym, _∙_}
+use mathlib.Core.Bool.{Bool}
+use mathlib.Core.List.{List}
+use lib.ListN.{length}
+use Rattle.records.specs.declared.Record.{Record}
+use Rattle.bearers.specs.declared.Judgement.{Judgement}
+use Rattle.bearers.specs.declared.Parsed.{Parsed}
+use Rattle.bearers.specs.Admission.{judgeable, judgementOf, verdictsIn, allFive}
+use Rattle.bearers.specs.Bearer.{parsed}
+use Rattle.bearers.specs.Sets.{member, add, union, disjoint, within}
+
+-- Of the same record there is one bearer.
+pub of-once : (r : Record) (a b : Parsed) → a ≡ parsed r → b ≡ parsed r → a ≡ b
+of-once r a b p q = p ∙ sym q
+
+-- Of the same bytes and room there is one answer whether they can be judged.
+pub can-judge-once : (bytes : List ℕ) (room : ℕ) (a b : Bool) → a ≡ judgeable bytes room → b ≡ judgeable bytes room → a ≡ b
+can-judge-once bytes room a b p q = p ∙ sym q
+
+-- Of the same count and buffer there is one buffer afterwards.
+pub refuse-all-once : (count : ℕ) (buffer v w : List ℕ) → v ≡ allFive count buffer → w ≡ allFive count buffer → v ≡ w
+refuse-all-once count buffer v w p q = p ∙ sym q
+
+-- Of the same bytes, free units and buffer there is one judgement, and one buffer afterwards.
+pub admit-once : (bytes : List ℕ) (free : ℕ) (buffer : List ℕ) (a b : Judgement) (v w : List ℕ)
+    → (a ≡ judgementOf bytes free (length buffer)) × (v ≡ verdictsIn bytes free buffer)
+    → (b ≡ judgementOf bytes free (length buffer)) × (w ≡ verdictsIn bytes free buffer)
+    → (a ≡ b) × (v ≡ w)
+admit-once bytes free buffer a b v w p q = (p .0 ∙ sym (q .0), p .1 ∙ sym (q .1))
+
+-- Of the same sets and ID there is one answer of each operation.
+module _ (s t : ℕ) where
+  pub member-once : (a b : Bool) → a ≡ member s t → b ≡ member s t → a ≡ b
+  member-once a b p q = p ∙ sym q
+
+  pub add-once : (a b : ℕ) → a ≡ add s t → b ≡ add s t → a ≡ b
+  add-once a b p q = p ∙ sym q
+
+  pub union-once : (a b : ℕ) → a ≡ union s t → b ≡ union s t → a ≡ b
+  union-once a b p q = p ∙ sym q
+
+  pub disjoint-once : (a b : Bool) → a ≡ disjoint s t → b ≡ disjoint s t → a ≡ b
+  disjoint-once a b p q = p ∙ sym q
+
+  pub within-once : (a b : Bool) → a ≡ within s t → b ≡ within s t → a ≡ b
+  within-once a b p q = p ∙ sym q

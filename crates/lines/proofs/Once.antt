@@ -1,0 +1,28 @@
+-- Two results that satisfy a contract are equal: what each public entry gives is settled by its arguments.
+use Prim.Native.Nat.{ℕ}
+use mathlib.Core.Path.{_≡_, sym, _∙_}
+use mathlib.Core.Bool.{Bool}
+use mathlib.Core.List.{List}
+use lib.ListN.{length}
+use lib.Seq.{sets}
+use Rattle.lines.specs.declared.Progress.{Progress}
+use Rattle.lines.specs.declared.Run.{Run}
+use Rattle.lines.specs.Lines.{newRun, workOf, progress, leftIn}
+
+-- There is one run at the start.
+pub new-once : (a b : Run) → a ≡ newRun → b ≡ newRun → a ≡ b
+new-once a b p q = p ∙ sym q
+
+-- Of the same run, block and buffer there is one progress, and one buffer afterwards.
+pub answer-once : (run : Run) (bytes : List ℕ) (ended : Bool) (out : List ℕ) (a b : Progress) (v w : List ℕ)
+    → (a ≡ progress (workOf ended (length out) bytes run)) × (v ≡ sets out 0 (workOf ended (length out) bytes run .text))
+    → (b ≡ progress (workOf ended (length out) bytes run)) × (w ≡ sets out 0 (workOf ended (length out) bytes run .text))
+    → (a ≡ b) × (v ≡ w)
+answer-once run bytes ended out a b v w p q = (p .0 ∙ sym (q .0), p .1 ∙ sym (q .1))
+
+-- Of the same block and numbers there is one answer, and one block afterwards.
+pub carry-once : (taken held : ℕ) (block : List ℕ) (a b : ℕ) (v w : List ℕ)
+    → (a ≡ length (leftIn taken held block)) × (v ≡ sets block 0 (leftIn taken held block))
+    → (b ≡ length (leftIn taken held block)) × (w ≡ sets block 0 (leftIn taken held block))
+    → (a ≡ b) × (v ≡ w)
+carry-once taken held block a b v w p q = (p .0 ∙ sym (q .0), p .1 ∙ sym (q .1))
