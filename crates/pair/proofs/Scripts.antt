@@ -20,7 +20,7 @@ use Rattle.table.specs.Numbers.{anyOf, issueFrom}
 use Rattle.table.specs.Step.{stepOf}
 use Rattle.table.specs.Table.{findFrom, dueFrom, tally}
 use Rattle.table.specs.Views.{named, out, held, due}
-use Rattle.pair.specs.World.{Side, A, B, other, put, Numbers, Envelope, World, act, delivered, Carries, request, plain, isFrom, own, take, All, nothing, more, Recent, Bounded, Acts, Step, acts, loses, Run, next}
+use Rattle.pair.specs.World.{Side, A, B, other, put, Numbers, Envelope, World, act, asSent, Carries, request, plain, isFrom, own, take, All, nothing, more, Recent, Bounded, Acts, Step, acts, loses, Run, next}
 
 -- ---- what a side does
 
@@ -53,7 +53,7 @@ numbered number time m =
 
 -- the event that a message is when it is taken
 abbrev pub arriving : ℕ → List ℕ → Record → Record
-arriving p bearers m = cond (eqb (m .kind) 1) (numbered (length bearers / 32) 0 (message 1 p (m .old .0) 0 0 0 0)) (delivered p m)
+arriving p bearers m = cond (eqb (m .kind) 1) (numbered (length bearers / 32) 0 (message 1 p (m .old .0) 0 0 0 0)) (asSent p m)
 
 carries : (p : ℕ) (bearers : List ℕ) (m : Record) → Carries p m (arriving p bearers m)
 carries p bearers m =

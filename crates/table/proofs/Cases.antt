@@ -3,7 +3,7 @@ use Prim.Native.Nat.{ℕ, zero, suc, _+_, _≤_, _<_}
 use mathlib.Core.Path.{_≡_, refl, ap, subst, _∙_}
 use mathlib.Core.Bool.{Bool, true, false, cond, _&&_, _||_}
 use mathlib.Core.List.{List, [], _∷_, map}
-use borrow.Author.Tests.{eq-eqb, ne-eqb, le-leb}
+use borrow.Author.Tests.{eq-eqb, ne-eqb}
 use native.Mathlib.Omega.{arith}
 use lib.Dec.{eqb}
 use lib.ListN.{getD, replicate}
@@ -21,6 +21,7 @@ use Rattle.table.specs.Numbers.{isFree, blank, ownIs, anyOf, nextAfter, 
 use Rattle.table.specs.Reached.{Reached, born, stepped}
 use Rattle.table.specs.Step.{stepOf, issue}
 use Rattle.table.specs.Table.{find, findFrom, dueFrom}
+use Rattle.table.proofs.Forms.{used-in-range}
 use Rattle.table.proofs.Issuing.{issue-free, issue-used}
 use Rattle.table.proofs.Rows.{same-at, row-step, start-step}
 use Rattle.table.specs.Cases.{Seen, Case, freshly, issuedLast, startOf, bytesIn, runs, Holds, start, cancel, cases, noCase}
@@ -91,7 +92,7 @@ cancelled-second : (n : ℕ) → n < 4095 → stepOf (twoFrom (suc n)) (cancel (
 unfolding findFrom
 cancelled-second n h =
     ap (λ (a : Answer). a .station)
-    (row-step (twoFrom (suc n)) (cancel (suc n) .event) [] 0 (ap (λ (b : Bool). b && true && true && true && true) (le-leb (suc n) 4095 h)) 1 8 refl
+    (row-step (twoFrom (suc n)) (cancel (suc n) .event) [] 0 (ap (λ (b : Bool). b && true && true && true && true) (used-in-range 4095 (suc n) h)) 1 8 refl
     (ap (λ (b : Bool). cond (b && true) (At 0) (cond (eqb (suc n) (suc n) && true) (At 1) Nothing)) (ne-eqb 0 (suc n) (λ e. omega arith))
     ∙ ap (λ (b : Bool). cond (b && true) (At 1) Nothing) (eq-eqb (suc n) (suc n) refl)) refl)
 
