@@ -85,17 +85,17 @@ same-piece false rest more none t =
     ∙ sym (front rest long)
 
 -- and so is its answer
-same-by : (s : Station) (rest more : List ℕ) (p : Piece) → p ≡ pieceAt rest 0 → answerTo s (rest ++ more) p ≡ answerTo s rest p
-same-by s rest more Nothing h = refl
-same-by s rest more (Short next) h = refl
-same-by s rest more (Single r next) h = refl
-same-by s rest more (Request r next) h =
+same-by : (room : ℕ) (s : Station) (rest more : List ℕ) (p : Piece) → p ≡ pieceAt rest 0 → answerTo room s (rest ++ more) p ≡ answerTo room s rest p
+same-by room s rest more Nothing h = refl
+same-by room s rest more (Short next) h = refl
+same-by room s rest more (Single r next) h = refl
+same-by room s rest more (Request r next) h =
     let part = bearers-part rest (Request r next) r next h refl in
     let long : 32 ≤ length rest = omega (arith, part .0, part .1) in
     rw (drop-append-le 32 rest more long, take-append-le (next - 32) (drop 32 rest) more (omega (arith, length-drop 32 rest, part .1)))
 
-same-answer : (s : Station) (rest more : List ℕ) → pieceAt (rest ++ more) 0 ≡ pieceAt rest 0 → answerTo s (rest ++ more) (pieceAt (rest ++ more) 0) ≡ answerTo s rest (pieceAt rest 0)
-same-answer s rest more e = ap (answerTo s (rest ++ more)) e ∙ same-by s rest more (pieceAt rest 0) refl
+same-answer : (room : ℕ) (s : Station) (rest more : List ℕ) → pieceAt (rest ++ more) 0 ≡ pieceAt rest 0 → answerTo room s (rest ++ more) (pieceAt (rest ++ more) 0) ≡ answerTo room s rest (pieceAt rest 0)
+same-answer room s rest more e = ap (answerTo room s (rest ++ more)) e ∙ same-by room s rest more (pieceAt rest 0) refl
 
 -- ---- the lines of a stream, event by event
 
@@ -147,7 +147,7 @@ first-whole : (ended : Bool) (run : Run) (rest more : List ℕ) → (ended ≡ t
     → linesOf run (rest ++ more) ≡ lineFor run rest ++ linesOf (after run rest) (drop (sizeOf (pieceAt rest 0)) rest ++ more)
 first-whole ended run rest more none t =
     let piece : pieceAt (rest ++ more) 0 ≡ pieceAt rest 0 = same-piece ended rest more none t in
-    let answer = same-answer (run .station) rest more piece in
+    let answer = same-answer 256 (run .station) rest more piece in
     let some : 0 < sizeOf (pieceAt rest 0) = some-byte rest ended (length rest) t in
     let size : sizeOf (pieceAt rest 0) ≤ length rest = within rest in
     let left : drop (sizeOf (pieceAt (rest ++ more) 0)) (rest ++ more) ≡ drop (sizeOf (pieceAt rest 0)) rest ++ more = ap (λ (p : Piece). drop (sizeOf p) (rest ++ more)) piece ∙ drop-append-le (sizeOf (pieceAt rest 0)) rest more size in

@@ -62,16 +62,16 @@ bearers-part rest p r next here what =
 silent-range : InRange silence
 silent-range = record { kind = omega arith; neighbour = omega arith; old = omega arith; new = omega arith; first = omega arith; second = omega arith; reason = omega arith; byte11 = omega arith; number = omega arith; time = omega arith; erab = omega arith; qci = omega arith; priority = omega arith; flags = omega arith; bytes28 = omega arith }
 
-reached-by : (s : Station) (rest : List ℕ) (r : Record) (next end : ℕ) → Reached s → InRange r → (ended room takes : Bool) → Reached (answerTo s rest (cond ended Nothing (cond room (cond takes (Request r next) (Single r 32)) (Short end))) .station)
-reached-by s rest r next end h k true room takes = stepped h silence silent-range [] 0
-reached-by s rest r next end h k false false takes = stepped h silence silent-range [] 0
-reached-by s rest r next end h k false true false = stepped h r k [] 0
-reached-by s rest r next end h k false true true = stepped h r k (take (next - 32) (drop 32 rest)) 256
+reached-by : (room : ℕ) (s : Station) (rest : List ℕ) (r : Record) (next end : ℕ) → Reached s → InRange r → (ended whole takes : Bool) → Reached (answerTo room s rest (cond ended Nothing (cond whole (cond takes (Request r next) (Single r 32)) (Short end))) .station)
+reached-by room s rest r next end h k true whole takes = stepped h silence silent-range [] 0
+reached-by room s rest r next end h k false false takes = stepped h silence silent-range [] 0
+reached-by room s rest r next end h k false true false = stepped h r k [] 0
+reached-by room s rest r next end h k false true true = stepped h r k (take (next - 32) (drop 32 rest)) room
 
-pub still-reached : (s : Station) (rest : List ℕ) → Reached s → AreBytes rest → Reached (answerTo s rest (pieceAt rest 0) .station)
-still-reached s rest h k =
+pub still-reached : (room : ℕ) (s : Station) (rest : List ℕ) → Reached s → AreBytes rest → Reached (answerTo room s rest (pieceAt rest 0) .station)
+still-reached room s rest h k =
     let r = recordOf (take 32 (drop 0 rest)) in
-    reached-by s rest r (32 + 32 * bearersIn (r .number) (drop 32 rest)) (length rest) h (in-range (take 32 (drop 0 rest)) (bytes-take 32 (drop 0 rest) k)) (leb (length rest) 0) (roomAt rest 0) (takesBearers r)
+    reached-by room s rest r (32 + 32 * bearersIn (r .number) (drop 32 rest)) (length rest) h (in-range (take 32 (drop 0 rest)) (bytes-take 32 (drop 0 rest) k)) (leb (length rest) 0) (roomAt rest 0) (takesBearers r)
 
 -- One event more, or none.
 pub goes : (most : ℕ) (ended : Bool) (room : ℕ) (bytes : List ℕ) (w : Work) → goesOn ended room bytes w ≡ true → workOn (suc most) ended room bytes w ≡ workOn most ended room bytes (onward bytes w)

@@ -81,7 +81,7 @@ module _ (bytes : List ℕ) (ended : Bool) (buffer : List ℕ) (run : Run) where
 
       -- One event: the next head, from what the turn's calls gave.
       pub turned : AreBytes bytes → (left : List ℕ) (a : Answer) (place' size end : ℕ) (piece' : Piece)
-          → a ≡ answerTo station (take (length bytes - taken) (drop taken bytes)) piece
+          → a ≡ answerTo 256 station (take (length bytes - taken) (drop taken bytes)) piece
           → end ≡ written + length (lineOf place (a .outcome)) → left ≡ sets out written (lineOf place (a .outcome))
           → place' ≡ (place + 1) % 2 ^ 64 → size ≡ sizeOf piece
           → piece' ≡ pieceAt (take (length bytes - (taken + size)) (drop (taken + size) bytes)) 0
@@ -92,7 +92,7 @@ module _ (bytes : List ℕ) (ended : Bool) (buffer : List ℕ) (run : Run) where
           let room = length buffer in
           let most = head .1 - 1 in
           let w = working station place taken text in
-          let given : a ≡ answerTo station rest (pieceAt rest 0) = answer ∙ rw (part bytes taken, head .2) in
+          let given : a ≡ answerTo 256 station rest (pieceAt rest 0) = answer ∙ rw (part bytes taken, head .2) in
           let sized : size ≡ sizeOf (pieceAt rest 0) = sizes ∙ ap sizeOf (head .2) in
           let further : head .1 ≡ suc most = omega (arith, some, size-left, head .4, head .5) in
           let moved : working (a .station) place' (taken + size) (text ++ lineOf place (a .outcome)) ≡ onward bytes w = rw (given, counts, sized) in
@@ -100,7 +100,7 @@ module _ (bytes : List ℕ) (ended : Bool) (buffer : List ℕ) (run : Run) where
             text ++ lineOf place (a .outcome),
             most,
             next ∙ ap (λ (l : List ℕ). pieceAt l 0) (part bytes (taken + size)),
-            subst (λ (b : Answer). Reached (b .station)) (sym given) (still-reached station rest (head .3) (bytes-drop taken bytes known)),
+            subst (λ (b : Answer). Reached (b .station)) (sym given) (still-reached 256 station rest (head .3) (bytes-drop taken bytes known)),
             omega (arith, sizes, size-left, head .4),
             omega (arith, sizes, some, further, head .5),
             wrote .0 ∙ zero-add _,

@@ -29,9 +29,9 @@ module _ (ended : Bool) (room : ℕ) (bytes : List ℕ) (known : AreBytes bytes)
       let rest = drop (w .taken) bytes in
       let place = w .run .place in
       let fits : leb 189 (room - length (w .text)) ≡ true = both-true (isWhole ended (length bytes - w .taken) (pieceAt rest 0)) _ t .1 in
-      let outcome = answerTo (w .run .station) rest (pieceAt rest 0) .outcome in
+      let outcome = answerTo 256 (w .run .station) rest (pieceAt rest 0) .outcome in
       record {
-        reached = still-reached (w .run .station) rest (h .reached) (bytes-drop (w .taken) bytes known);
+        reached = still-reached 256 (w .run .station) rest (h .reached) (bytes-drop (w .taken) bytes known);
         taken = omega (arith, within rest, length-drop (w .taken) bytes, h .taken);
         written = omega (arith, length-append (w .text) (lineOf place outcome), line-most place outcome, leb-true 189 (room - length (w .text)) fits);
       }

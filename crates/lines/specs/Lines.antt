@@ -11,7 +11,7 @@ use Rattle.table.specs.declared.Answer.{Answer}
 use Rattle.table.specs.declared.Outcome.{Outcome}
 use Rattle.table.specs.declared.Station.{Station}
 use Rattle.table.specs.Events.{silence}
-use Rattle.table.specs.Step.{stepOf, bornOf}
+use Rattle.table.specs.Step.{stepOf, verdictsOf, bornOf}
 use Rattle.lines.specs.declared.Run.{Run}
 use Rattle.lines.specs.declared.Progress.{Progress}
 use Rattle.lines.specs.Text.{cell, spaced}
@@ -48,23 +48,30 @@ isWhole ended left (Single r next) = true
 isWhole ended left (Request r next) = ended || eqb next (32 + r .number * 32) || leb 32 (left - next)
 
 -- the station's answer to what stands at the front: "A request with its bearers is one event"; "A piece shorter than 32 bytes
--- at the end is one malformed event", as a record of no kind is
-abbrev pub answerTo : Station → List ℕ → Piece → Answer
-answerTo s rest Nothing = stepOf s silence [] 0
-answerTo s rest (Short next) = stepOf s silence [] 0
-answerTo s rest (Single r next) = stepOf s r [] 0
-answerTo s rest (Request r next) = stepOf s r (take (next - 32) (drop 32 rest)) 256
+-- at the end is one malformed event", as a record of no kind is; so many places are lent for verdicts
+abbrev pub answerTo : ℕ → Station → List ℕ → Piece → Answer
+answerTo room s rest Nothing = stepOf s silence [] 0
+answerTo room s rest (Short next) = stepOf s silence [] 0
+answerTo room s rest (Single r next) = stepOf s r [] 0
+answerTo room s rest (Request r next) = stepOf s r (take (next - 32) (drop 32 rest)) room
+
+-- and what it leaves of the buffer: only a request has verdicts
+abbrev pub verdictsTo : Station → List ℕ → Piece → List ℕ → List ℕ
+verdictsTo s rest Nothing buffer = buffer
+verdictsTo s rest (Short next) buffer = buffer
+verdictsTo s rest (Single r next) buffer = buffer
+verdictsTo s rest (Request r next) buffer = verdictsOf s r (take (next - 32) (drop 32 rest)) buffer
 
 -- "place counts events": it wraps after 64 bits
 abbrev pub after : Run → List ℕ → Run
 after run rest =
     record {
-      station = answerTo (run .station) rest (pieceAt rest 0) .station;
+      station = answerTo 256 (run .station) rest (pieceAt rest 0) .station;
       place = (run .place + 1) % 2 ^ 64;
     }
 
 abbrev pub lineFor : Run → List ℕ → List ℕ
-lineFor run rest = lineOf (run .place) (answerTo (run .station) rest (pieceAt rest 0) .outcome)
+lineFor run rest = lineOf (run .place) (answerTo 256 (run .station) rest (pieceAt rest 0) .outcome)
 
 -- "settings capacity 100, prep 50, overall 2,000, guard 3,000"
 abbrev pub newRun : Run

@@ -21,7 +21,7 @@ ghost use lib.Seq.{sets};
 ghost use Rattle.records.specs.Stream.{pieceAt};
 ghost use Rattle.table.specs.Events.{silence};
 ghost use Rattle.table.specs.Reached.{Reached};
-ghost use Rattle.lines.specs.Lines.{lineOf, sizeOf, isWhole, answerTo, newRun, workOf, progress, leftIn};
+ghost use Rattle.lines.specs.Lines.{lineOf, sizeOf, isWhole, answerTo, verdictsTo, newRun, workOf, progress, leftIn};
 
 // The longest line: nine numbers of at most 20 digits, and a byte after each.
 pub const LONGEST: usize = 189;
@@ -77,7 +77,7 @@ fn is_whole(piece: Piece, left: usize, ended: bool) -> bool
 }
 
 // How many bytes an event has.
-fn size_of(piece: Piece) -> usize
+pub fn size_of(piece: Piece) -> usize
     ensures { λ r. ⌜ r ≡ sizeOf piece ⌝ }
 {
     match piece {
@@ -111,19 +111,16 @@ fn nothing() -> Record
     }
 }
 
-// A station's answer to what stands at the front of some bytes.
-fn answered(station: Station, piece: Piece, bytes: &[u8]) -> Answer
+// A station's answer to what stands at the front of some bytes; a request's verdicts go to the buffer.
+pub fn answered(station: Station, piece: Piece, bytes: &[u8], verdicts: &mut [u8]) -> Answer
     requires { ⌜ Reached station × (piece ≡ pieceAt (now bytes) 0) ⌝ }
-    ensures { λ a. ⌜ a ≡ answerTo station (now (bytes .entry)) piece ⌝ }
+    ensures { λ a. ⌜ (a ≡ answerTo (length (now (verdicts .entry))) station (now (bytes .entry)) piece) × (now (verdicts .exit) ≡ verdictsTo station (now (bytes .entry)) piece (now (verdicts .entry))) ⌝ }
 {
     match piece {
         Piece::Nothing => station.step(nothing()),
         Piece::Short(_) => station.step(nothing()),
         Piece::Single(r, _) => station.step(r),
-        Piece::Request(r, next) => {
-            let mut verdicts = [0u8; 256];
-            station.request(r, &bytes[SIZE..next], &mut verdicts)
-        }
+        Piece::Request(r, next) => station.request(r, &bytes[SIZE..next], verdicts),
     }
 }
 
@@ -168,9 +165,10 @@ impl Run {
         let mut place = self.place;
         let mut taken: usize = 0;
         let mut written: usize = 0;
+        let mut verdicts = [0u8; 256];
         let mut piece = cut(bytes, 0);
         while is_whole(piece, bytes.len() - taken, ended) & (LONGEST <= out.len() - written) {
-            let a = answered(station, piece, &bytes[taken..]);
+            let a = answered(station, piece, &bytes[taken..], &mut verdicts);
             written = line(place, a.outcome, out, written);
             station = a.station;
             place = wrapping_add_u64(place, 1);

@@ -1,0 +1,44 @@
+-- A station that was born is one that a fresh one reaches.
+use Prim.Native.Nat.{_/_, _%_}
+use mathlib.Core.Path.{sym, subst}
+use native.Mathlib.Omega.{arith}
+use Rattle.table.specs.declared.Birth.{Birth}
+use Rattle.table.specs.Reached.{Reached, born}
+use borrow.Author.Needs.{needs}
+use Rattle.cases.proofs.born.Statement.{statement}
+use Rattle.cases.proofs.born.Tie as tie
+
+cast-prep : tie.Need-cast-prep
+cast-prep c = search needs
+
+cast-overall : tie.Need-cast-overall
+cast-overall c = search needs
+
+new-requires : tie.Need-new-requires
+new-requires c κs = search needs
+
+slice-aggregate-field : tie.Need-slice-aggregate-field
+slice-aggregate-field c = search needs
+
+cast-field : tie.Need-cast-field
+cast-field c = search needs
+
+field-requires : tie.Need-field-requires
+field-requires c κs = search needs
+
+returns : tie.Need-returns
+returns c =
+    let r = c .before .before .before .before .before .before .before .args .r in
+    record { reached = subst (λ (b : Birth). Reached (b .station)) (sym (c .before .before .before .before .new .ensures)) (born (r .number) (r .time % 4294967296) (r .time / 4294967296) (r .bytes28)); at = omega arith; first = omega arith }
+
+pub born-spec : {M : Type 1} → statement M
+born-spec =
+    tie.close
+    (tie.spec
+    cast-prep
+    cast-overall
+    new-requires
+    slice-aggregate-field
+    cast-field
+    field-requires
+    returns)
