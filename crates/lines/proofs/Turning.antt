@@ -55,9 +55,6 @@ module _ (bytes : List ℕ) (ended : Bool) (buffer : List ℕ) (run : Run) where
     pub same-length : length out ≡ length buffer
     same-length = ap length (head .8) ∙ length-sets buffer 0 (head .0)
 
-    pub here : piece ≡ pieceAt (take (length bytes - taken) (drop taken bytes)) 0
-    here = head .2 ∙ ap (λ (rest : List ℕ). pieceAt rest 0) (sym (part bytes taken))
-
     -- the loop's test is the definition's
     tested : (isWhole ended (length bytes - taken) piece && leb 189 (length out - written)) ≡ goesOn ended (length buffer) bytes (working station place taken (head .0))
     tested = rw (head .2, same-length, head .6)

@@ -14,7 +14,7 @@ use table::Answer;
 use table::Outcome;
 use table::Station;
 ghost use mathlib.Core.Path.{_≡_};
-ghost use Prim.Native.Nat.{_+_, _≤_, min};
+ghost use Prim.Native.Nat.{_+_, _≤_, min, max};
 ghost use mathlib.Core.List.{[]};
 ghost use lib.ListN.{length};
 ghost use lib.Seq.{sets};
@@ -113,14 +113,18 @@ fn nothing() -> Record
 
 // A station's answer to what stands at the front of some bytes; a request's verdicts go to the buffer.
 pub fn answered(station: Station, piece: Piece, bytes: &[u8], verdicts: &mut [u8]) -> Answer
-    requires { ⌜ Reached station × (piece ≡ pieceAt (now bytes) 0) ⌝ }
+    requires { ⌜ Reached station ⌝ }
     ensures { λ a. ⌜ (a ≡ answerTo (length (now (verdicts .entry))) station (now (bytes .entry)) piece) × (now (verdicts .exit) ≡ verdictsTo station (now (bytes .entry)) piece (now (verdicts .entry))) ⌝ }
 {
     match piece {
         Piece::Nothing => station.step(nothing()),
         Piece::Short(_) => station.step(nothing()),
         Piece::Single(r, _) => station.step(r),
-        Piece::Request(r, next) => station.request(r, &bytes[SIZE..next], verdicts),
+        Piece::Request(r, next) => {
+            let from = least(SIZE, bytes.len());
+            let to = greatest(from, least(next, bytes.len()));
+            station.request(r, &bytes[from..to], verdicts)
+        }
     }
 }
 
@@ -143,6 +147,12 @@ fn least(a: usize, b: usize) -> usize
     ensures { λ r. ⌜ r ≡ min a b ⌝ }
 {
     if a < b { a } else { b }
+}
+
+fn greatest(a: usize, b: usize) -> usize
+    ensures { λ r. ⌜ r ≡ max a b ⌝ }
+{
+    if a < b { b } else { a }
 }
 
 impl Run {

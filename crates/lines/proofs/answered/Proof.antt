@@ -1,13 +1,17 @@
 -- Each case of the piece is a step of the station; a request's bearers are the bytes between its record and the next event.
-use Prim.Native.Nat.{_≤_}
-use mathlib.Core.Path.{_∙_, sym, ap}
-use mathlib.Core.List.{[]}
-use lib.ListN.{length}
+use Prim.Native.Nat.{ℕ, _-_, min, max}
+use mathlib.Core.Path.{_≡_, _∙_, sym, ap}
+use mathlib.Core.List.{List, []}
+use borrow.Author.Tests.{leb-true, leb-false}
+use native.Mathlib.Omega.{arith}
+use lib.Dec.{leb}
+use lib.ListN.{length, take, drop, length-drop, drop-of-length-le}
+use lib.Seq.{take-all, take-nil}
+use Rattle.laws.proofs.Tests.{by-cases}
 use Rattle.records.specs.declared.Record.{Record}
 use Rattle.records.specs.declared.stream.Piece.{Piece}
-use Rattle.table.specs.Step.{stepOf}
+use Rattle.table.specs.Step.{stepOf, verdictsOf}
 use Rattle.lines.specs.Lines.{answerTo, verdictsTo}
-use Rattle.lines.proofs.Going.{bearers-part}
 use borrow.Author.Needs.{needs}
 use Rattle.lines.proofs.answered.Statement.{statement}
 use Rattle.lines.proofs.answered.Tie as tie
@@ -39,21 +43,46 @@ step-requires-3 c κs = search needs
 enum-known-piece-2 : tie.Need-enum-known-piece-2
 enum-known-piece-2 c = search needs
 
--- the bearers' part of the bytes
-between : (c : tie.After-known-told2) → (32 ≤ c .before .piece2 .given .0 .1 .0) × (c .before .piece2 .given .0 .1 .0 ≤ length (c .before .before .before .before .before .args .bytes .now))
-between c = bearers-part (c .before .before .before .before .before .args .bytes .now) _ _ _ (c .before .before .before .before .before .pre .1) (c .before .piece2 .given .1)
+least-requires : tie.Need-least-requires
+least-requires c κs = search needs
+
+least-requires-2 : tie.Need-least-requires-2
+least-requires-2 c κs = search needs
+
+greatest-requires : tie.Need-greatest-requires
+greatest-requires c κs = search needs
 
 sub-request : tie.Need-sub-request
-sub-request c = between c .0
+sub-request c = search needs
 
 part-request-start : tie.Need-part-request-start
-part-request-start c = between c .0
+part-request-start c = search needs
 
 part-request-end : tie.Need-part-request-end
-part-request-end c = between c .1
+part-request-end c = search needs
 
 request-requires : tie.Need-request-requires
 request-requires c κs = search needs
+
+-- the part between a record and the next event, also where that is no place of the bytes
+between : (bytes : List ℕ) (next from end to : ℕ) → from ≡ min 32 (length bytes) → end ≡ min next (length bytes) → to ≡ max from end → take (to - from) (drop from bytes) ≡ take (next - 32) (drop 32 bytes)
+between bytes next from end to f e t =
+    by-cases (leb 32 (length bytes))
+    (λ u.
+    let long = leb-true 32 (length bytes) u in
+    let first : from ≡ 32 = omega (arith, f, long) in
+    by-cases (leb next (length bytes))
+    (λ v. let size : to - from ≡ next - 32 = omega (arith, first, e, t, leb-true next (length bytes) v) in rw (size, first))
+    (λ v.
+    let beyond = leb-false next (length bytes) v in
+    rw first
+    (take-all (to - 32) (drop 32 bytes) (omega (arith, length-drop 32 bytes, e, t, beyond))
+    ∙ sym (take-all (next - 32) (drop 32 bytes) (omega (arith, length-drop 32 bytes, beyond))))))
+    (λ u.
+    let short = leb-false 32 (length bytes) u in
+    let here : drop from bytes ≡ [] = drop-of-length-le bytes {i = from} (omega (arith, f, short)) in
+    let there : drop 32 bytes ≡ [] = drop-of-length-le bytes {i = 32} (omega (arith, short)) in
+    rw (here, there) (take-nil (to - from) ∙ sym (take-nil (next - 32))))
 
 returns : tie.Need-returns
 returns c =
@@ -78,9 +107,15 @@ same-length c = search needs
 
 returns-4 : tie.Need-returns-4
 returns-4 c =
-    let start = c .before .before .before .before .before .before .before .before .before .before .args in
-    let request = c .before .before .before .before .before .before .piece2 .given .1 in
-    (c .before .before .request .ensures .0 ∙ sym (ap (answerTo (length (start .verdicts .now)) (start .station) (start .bytes .now)) request), c .before .before .request .ensures .1 ∙ sym (ap (λ (p : Piece). verdictsTo (start .station) (start .bytes .now) p (start .verdicts .now)) request))
+    let start = c .before .before .before .before .before .before .before .before .before .before .before .before .before .args in
+    let station = start .station in
+    let bytes = start .bytes .now in
+    let verdicts = start .verdicts .now in
+    let piece = c .before .before .before .before .before .before .before .before .before .piece2 .given in
+    let same = between bytes (piece .0 .1 .0) _ _ _ (c .before .before .before .before .before .before .before .least .ensures) (c .before .before .before .before .before .before .least2 .ensures) (c .before .before .before .before .before .greatest .ensures) in (
+      c .before .before .request .ensures .0 ∙ ap (λ (part : List ℕ). stepOf station (piece .0 .0) part (length verdicts)) same ∙ sym (ap (answerTo (length verdicts) station bytes) (piece .1)),
+      c .before .before .request .ensures .1 ∙ ap (λ (part : List ℕ). verdictsOf station (piece .0 .0) part verdicts) same ∙ sym (ap (λ (p : Piece). verdictsTo station bytes p verdicts) (piece .1)),
+    )
 
 pub answered-spec : {M : Type 1} → statement M
 answered-spec =
@@ -95,6 +130,9 @@ answered-spec =
     enum-known-piece
     step-requires-3
     enum-known-piece-2
+    least-requires
+    least-requires-2
+    greatest-requires
     sub-request
     part-request-start
     part-request-end

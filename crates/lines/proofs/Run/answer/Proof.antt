@@ -7,7 +7,7 @@ use native.Mathlib.Omega.{arith}
 use lib.Dec.{leb}
 use lib.ListN.{length, take, drop}
 use Rattle.lines.specs.Lines.{isWhole, answerTo}
-use Rattle.lines.proofs.Turning.{Head, size-left, same-length as kept-length, here, returned, has-room, some, turned}
+use Rattle.lines.proofs.Turning.{Head, size-left, same-length as kept-length, returned, has-room, some, turned}
 use Rattle.lines.proofs.Run.answer.Statement.{statement}
 use Rattle.lines.proofs.Run.answer.Tie as tie
 
@@ -52,7 +52,7 @@ slice-aggregate-answered : tie.Need-slice-aggregate-answered Inv-loop μ-loop
 slice-aggregate-answered c = sym (c .before .before .before .before .loop .inv .1)
 
 answered-requires : tie.Need-answered-requires Inv-loop μ-loop
-answered-requires c κs = (c .before .before .before .before .loop .inv .0 .3, here _ _ _ _ _ _ _ _ _ _ (c .before .before .before .before .loop .inv .0))
+answered-requires c κs = c .before .before .before .before .loop .inv .0 .3
 
 line-requires : tie.Need-line-requires Inv-loop μ-loop
 line-requires c κs = has-room _ _ _ _ _ _ _ _ _ _ (c .before .before .before .before .before .before .before .loop .inv .0) (tested (c .before .before .before .before .before .before) ∙ c .before .before .before .before .before .if1 .taken)
