@@ -1,21 +1,25 @@
--- "64 records in use, exactly then": when a start or a request finds the table full; and kinds that are none.
+-- "64 records in use, exactly then": when a start or a request gets reply 4; and kinds that are none.
 use Prim.Native.Nat.{ℕ, _+_, _≤_, _<_}
 use mathlib.Core.Path.{_≡_, refl}
 use mathlib.Core.Bool.{Bool, true, false, cond}
 use mathlib.Core.List.{List}
+use borrow.Author.Tests.{eqb-false}
 use native.Mathlib.Omega.{arith}
+use lib.Dec.{eqb}
+use Rattle.laws.proofs.Tests.{by-cases}
 use Rattle.records.specs.declared.Record.{Record}
 use Rattle.table.specs.declared.Entry.{Entry}
 use Rattle.table.specs.declared.Found.{Found}
 use Rattle.table.specs.declared.Found.the-variants.{At, Nothing}
 use Rattle.table.specs.declared.Station.{Station}
+use Rattle.table.specs.Events.{about}
 use Rattle.table.specs.Fields.{isKind, wellFormed}
 use Rattle.table.specs.Numbers.{isFree, blank}
 use Rattle.table.specs.Sound.{Sound}
-use Rattle.table.specs.Step.{refused, stepOf}
+use Rattle.table.specs.Step.{refused, failure, admission, taken, complete, stepOf}
 use Rattle.table.specs.Table.{find, tally}
 use Rattle.table.proofs.Finding.{found-at, found-none}
-use Rattle.table.proofs.Rows.{start-step, full-step}
+use Rattle.table.proofs.Rows.{start-step, full-step, crowded-step, empty-step, grant-step}
 use Rattle.table.proofs.Tally.{tally-at, tally-add, tally-each, tally-equal, tally-none}
 
 -- how many records are in use
@@ -68,6 +72,23 @@ module _ (s : Station) (sound : Sound s) where
         by-place (find isFree s) refl
         (λ found. absurd (omega (arith, none-free found)))
         (λ i found. rw (start-step s e bearers room formed i kind found))
+
+  module _ (e : Record) (bearers : List ℕ) (room : ℕ) (formed : wellFormed e ≡ true) (kind : e .kind ≡ 1)
+      (whole : complete e bearers room ≡ true) (new : find (about e) s ≡ Nothing) where
+    -- So does a request that is complete and repeats none: 4 and the failure where 64 are in use, and else another reply.
+    pub crowded-exactly : inUse s ≡ 64 → stepOf s e bearers room ≡ failure 4 e s
+    crowded-exactly full =
+        by-place (find isFree s) refl
+        (λ found. crowded-step s e bearers room formed kind whole new found)
+        (λ i found. absurd (omega (arith, some-free i found)))
+
+    pub admits-exactly : inUse s < 64 → stepOf s e bearers room .outcome .reply ≡ 4 → ⊥
+    admits-exactly less =
+        by-place (find isFree s) refl
+        (λ found. absurd (omega (arith, none-free found)))
+        (λ i found. by-cases (eqb (admission (taken e bearers) s .admitted) 0)
+        (λ t. rw (empty-step s e bearers room formed kind whole i new found t) (eqb-false 5 4 refl))
+        (λ t. rw (grant-step s e bearers room formed kind whole i new found t) (eqb-false 0 4 refl)))
 
 -- "A kind 16 elsewhere is malformed", and so is any other that is not 1 to 15 or 17.
 pub no-kind-step : (s : Station) (e : Record) (bearers : List ℕ) (room : ℕ) → isKind (e .kind) ≡ false → stepOf s e bearers room ≡ refused 1 s
