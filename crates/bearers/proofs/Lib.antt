@@ -1,4 +1,5 @@
 pub mod Admitted
+pub mod Buffers
 pub mod Firsts
 pub mod Granted
 pub mod Judging

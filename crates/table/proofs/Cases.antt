@@ -19,7 +19,7 @@ use Rattle.table.specs.Events.{message}
 use Rattle.table.specs.Fields.{wellFormed}
 use Rattle.table.specs.Numbers.{isFree, blank, ownIs, anyOf, nextAfter, issueFrom}
 use Rattle.table.specs.Reached.{Reached, born, stepped}
-use Rattle.table.specs.Step.{stepOf, issue}
+use Rattle.table.specs.Step.{stepOf, issue, birthOf}
 use Rattle.table.specs.Table.{find, findFrom, dueFrom}
 use Rattle.table.proofs.Forms.{used-in-range}
 use Rattle.table.proofs.Issuing.{issue-free, issue-used}
@@ -132,3 +132,36 @@ all-cases n =
       reached = start-reached (getD cases n noCase .wrapped);
       shown = same-at shows must cases noCase n all-shown none-shown;
     }
+
+-- ---- births
+
+-- The least and the greatest settings are taken, and one less or one more of any is not, by computation.
+abbrev replyTo : ℕ → ℕ → ℕ → ℕ → ℕ
+replyTo capacity prep overall guard = birthOf capacity prep overall guard .reply
+
+pub birth-limits :
+    replyTo 0 1 1 1
+    ∷ replyTo 1000000000 600000 600000 600000
+    ∷ replyTo 1000000001 1 1 1
+    ∷ replyTo 0 0 1 1
+    ∷ replyTo 0 600001 1 1
+    ∷ replyTo 0 1 0 1
+    ∷ replyTo 0 1 600001 1
+    ∷ replyTo 0 1 1 0
+    ∷ replyTo 0 1 1 600001
+    ∷ []
+    ≡ 0
+    ∷ 0
+    ∷ 1
+    ∷ 1
+    ∷ 1
+    ∷ 1
+    ∷ 1
+    ∷ 1
+    ∷ 1
+    ∷ []
+birth-limits = refl
+
+-- One setting out of range replaces all four.
+pub birth-refused : birthOf 100 0 2000 3000 .station ≡ birthOf 0 1 1 1 .station
+birth-refused = refl

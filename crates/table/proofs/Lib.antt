@@ -7,6 +7,7 @@ pub mod Deciding
 pub mod Finding
 pub mod Fits
 pub mod Forms
+pub mod Full
 pub mod Guests
 pub mod Impostors
 pub mod Interface
