@@ -1,0 +1,3 @@
+// A text form for event files.
+pub mod compose;
+pub mod words;
