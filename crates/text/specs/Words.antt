@@ -68,5 +68,5 @@ trimmed [] = []
 trimmed (b ∷ bs) = cond (eqb b 32) [] (b ∷ trimmed bs)
 
 -- a word by its place
-abbrev pub wordAt : ℕ → List ℕ
+unfoldable pub wordAt : ℕ → List ℕ
 wordAt k = trimmed (getD words k [])

@@ -102,7 +102,7 @@ fn is_gap(byte: u8) -> bool
     (byte == 32) | (byte == 9) | (byte == 13)
 }
 
-fn is_set(field: usize) -> bool
+pub(crate) fn is_set(field: usize) -> bool
     ensures { λ r. ⌜ r ≡ isSet field ⌝ }
 {
     (field == 4) | (field == 5)
@@ -174,7 +174,7 @@ fn push(w: Word, byte: u8) -> Word
 }
 
 // The record of so many fields.
-fn record_from(values: [u64; 15]) -> Record
+pub(crate) fn record_from(values: [u64; 15]) -> Record
     ensures { λ r. ⌜ r ≡ recordFrom values ⌝ }
 {
     Record {
@@ -526,7 +526,7 @@ fn typed(d: Draft, byte: u8, out: &mut [u8]) -> Draft
 }
 
 // One byte of the text.
-fn step(d: Draft, byte: u8, out: &mut [u8]) -> Draft
+pub fn step(d: Draft, byte: u8, out: &mut [u8]) -> Draft
     ensures { λ r. ⌜ made r (now (out .exit)) ≡ step (made d (now (out .entry))) byte ⌝ }
 {
     if byte == 10 {

@@ -82,7 +82,7 @@ pub(crate) fn place_of(text: [u8; 16]) -> usize
 // Writes a word from a place on, and answers the next place.
 pub(crate) fn write_word(word: usize, out: &mut [u8], at: usize) -> usize
     requires { ⌜ (word ≤ 36) × (at + 16 ≤ length (now out)) ⌝ }
-    ensures { λ r. ⌜ (r ≡ at + length (wordAt word)) × (now (out .exit) ≡ sets (now (out .entry)) at (wordAt word)) ⌝ }
+    ensures { λ r. ⌜ (r ≡ at + length (wordAt word)) × (now (out .exit) ≡ sets (now (out .entry)) at (wordAt word)) × (r ≤ at + 16) ⌝ }
 {
     write_trimmed(WORDS[word], out, at)
 }
@@ -90,7 +90,7 @@ pub(crate) fn write_word(word: usize, out: &mut [u8], at: usize) -> usize
 // Writes a text without the spaces after it.
 fn write_trimmed(text: [u8; 16], out: &mut [u8], at: usize) -> usize
     requires { ⌜ at + 16 ≤ length (now out) ⌝ }
-    ensures { λ r. ⌜ (r ≡ at + length (trimmed text)) × (now (out .exit) ≡ sets (now (out .entry)) at (trimmed text)) ⌝ }
+    ensures { λ r. ⌜ (r ≡ at + length (trimmed text)) × (now (out .exit) ≡ sets (now (out .entry)) at (trimmed text)) × (r ≤ at + 16) ⌝ }
 {
     let mut i: usize = 0;
     while i < 16 && text[i] != 32 {

@@ -83,7 +83,7 @@ returns : tie.Need-returns Inv-loop μ-loop
 returns c =
     let now = c .before .loop in
     let none = ended (c .before .before .args .t1) (now .i) (search needs) (⊎-elim (λ e. inl (not-false (eqb (getD (c .before .before .args .t1) (now .i) 0) 32) (e .1 .left))) (λ e. inr (e .left)) (c .loop-test .came)) in
-    (omega (arith, rw none at (now .inv .2)), rw none at (now .inv .3))
+    (omega (arith, rw none at (now .inv .2)), rw none at (now .inv .3), omega (arith, now .inv .0))
 
 pub write-trimmed-spec : {M : Type 1} → statement M
 write-trimmed-spec =
