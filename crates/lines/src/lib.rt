@@ -1,5 +1,5 @@
 // Events in, lines out: how the bytes of a stream become the lines of the station program.
-mod text;
+pub mod text;
 
 use crate::text::cell;
 use crate::text::cells;

@@ -7,7 +7,7 @@ ghost use lib.Seq.{sets};
 ghost use Rattle.lines.specs.Text.{size as sizeOf, digits, cell as cellOf, spaced};
 
 // How many digits a number has.
-fn size(n: u64) -> usize
+pub fn size(n: u64) -> usize
     ensures { λ r. ⌜ r ≡ sizeOf n ⌝ }
 {
     let mut k = 1;
@@ -20,7 +20,7 @@ fn size(n: u64) -> usize
 }
 
 // Writes the last so many digits of a number from a place on.
-fn spell(n: u64, k: usize, out: &mut [u8], at: usize)
+pub fn spell(n: u64, k: usize, out: &mut [u8], at: usize)
     requires { ⌜ at + k ≤ length (now out) ⌝ }
     ensures { λ _. ⌜ now (out .exit) ≡ sets (now (out .entry)) at (digits k n) ⌝ }
 {

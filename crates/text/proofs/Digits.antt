@@ -1,0 +1,33 @@
+-- What the tests of digits tell.
+use Prim.Native.Nat.{ℕ, _+_, _*_, _-_, _^_, _≤_, _<_}
+use mathlib.Core.Path.{_≡_, refl}
+use mathlib.Core.Bool.{Bool, true, false, _&&_, _||_}
+use mathlib.Core.Logic.{_⊎_, inl, inr, ⊎-elim}
+use borrow.Author.Tests.{leb-true, eqb-true}
+use native.Mathlib.Omega.{arith}
+use lib.Dec.{leb, eqb}
+use Rattle.laws.proofs.Tests.{both-true}
+use Rattle.text.specs.Composed.{takesDigit}
+
+-- One of two tests holds where either does.
+pub either-true : (a b : Bool) → (a || b) ≡ true → (a ≡ true) ⊎ (b ≡ true)
+either-true true b t = inl refl
+either-true false b t = inr t
+
+-- A number between two.
+pub between : (a b n : ℕ) → (leb a n && leb n b) ≡ true → (a ≤ n) × (n ≤ b)
+between a b n t = (leb-true a n (both-true (leb a n) (leb n b) t .0), leb-true n b (both-true (leb a n) (leb n b) t .1))
+
+-- A digit that is taken leaves a number of 64 bits.
+pub taken-fits : (v b : ℕ) → takesDigit v b ≡ true → (48 ≤ b) × (b ≤ 57) × (v * 10 + (b - 48) < 2 ^ 64)
+taken-fits v b t =
+    let here = both-true (leb 48 b && leb b 57) (leb v 1844674407370955160 || eqb v 1844674407370955161 && leb b 53) t in
+    let low : 48 ≤ b = between 48 57 b (here .0) .0 in
+    let high : b ≤ 57 = between 48 57 b (here .0) .1 in
+    let fits : v * 10 + (b - 48) < 2 ^ 64 =
+    ⊎-elim
+    (λ u. omega (arith, leb-true v 1844674407370955160 u))
+    (λ u. let last = both-true (eqb v 1844674407370955161) (leb b 53) u in omega (arith, eqb-true v 1844674407370955161 (last .0), leb-true b 53 (last .1)))
+    (either-true (leb v 1844674407370955160) (eqb v 1844674407370955161 && leb b 53) (here .1))
+    in
+    (low, high, fits)

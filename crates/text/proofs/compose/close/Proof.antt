@@ -1,0 +1,28 @@
+use Rattle.text.specs.Composed.{made}
+use Rattle.text.proofs.Machine.{close-over, close-on}
+use borrow.Author.Needs.{needs}
+use Rattle.text.proofs.compose.close.Statement.{statement}
+use Rattle.text.proofs.compose.close.Tie as tie
+
+returns : tie.Need-returns
+returns c = close-over (made (c .before .before .before .args .d) (c .before .before .before .args .out .now)) (c .if1 .taken)
+
+settle-requires : tie.Need-settle-requires
+settle-requires c κs = search needs
+
+stage-requires : tie.Need-stage-requires
+stage-requires c κs = search needs
+
+counted-requires : tie.Need-counted-requires
+counted-requires c κs = search needs
+
+same-length : tie.Need-same-length
+same-length c = search needs
+
+returns-2 : tie.Need-returns-2
+returns-2 c = close-on (made (c .before .before .before .before .before .before .before .before .before .before .before .before .before .before .before .args .d) (c .before .before .before .before .before .before .before .before .before .before .before .before .before .before .before .args .out .now)) _ _ _ (c .before .before .before .before .before .before .before .before .before .before .before .before .if1 .left) (c .before .before .before .before .before .before .before .before .before .before .settle .ensures) (c .before .before .before .before .before .before .stage .ensures) (c .before .before .counted .ensures)
+
+pub close-spec : {M : Type 1} → statement M
+close-spec =
+    tie.close
+    (tie.spec returns settle-requires stage-requires counted-requires same-length returns-2)

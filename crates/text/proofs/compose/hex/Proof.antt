@@ -1,0 +1,50 @@
+use Rattle.text.specs.Composed.{made}
+use Rattle.text.proofs.Machine.{hex-wrong, hex-long, hex-on}
+use borrow.Author.Needs.{needs}
+use Rattle.text.proofs.compose.hex.Statement.{statement}
+use Rattle.text.proofs.compose.hex.Tie as tie
+
+hex-value-requires : tie.Need-hex-value-requires
+hex-value-requires c κs = search needs
+
+wrong-requires : tie.Need-wrong-requires
+wrong-requires c κs = search needs
+
+returns : tie.Need-returns
+returns c = hex-wrong (made (c .before .before .before .before .before .args .d) (c .before .before .before .before .before .args .out .now)) _ _ (c .before .before .hex-value .ensures) (c .before .if1 .taken) (c .wrong .ensures)
+
+too-long-requires : tie.Need-too-long-requires
+too-long-requires c κs = search needs
+
+returns-2 : tie.Need-returns-2
+returns-2 c = hex-long (made (c .before .before .before .before .before .before .args .d) (c .before .before .before .before .before .before .args .out .now)) _ _ (c .before .before .before .hex-value .ensures) (c .before .before .if1 .left) (c .before .if2 .taken) (c .too-long .ensures)
+
+cast-out : tie.Need-cast-out
+cast-out c = search needs
+
+slice-write-out : tie.Need-slice-write-out
+slice-write-out c = search needs
+
+appended-requires : tie.Need-appended-requires
+appended-requires c κs = search needs
+
+same-length : tie.Need-same-length
+same-length c = search needs
+
+returns-3 : tie.Need-returns-3
+returns-3 c = hex-on (made (c .before .before .before .before .before .before .args .d) (c .before .before .before .before .before .before .args .out .now)) _ _ (c .before .before .before .hex-value .ensures) (c .before .before .if1 .left) (c .before .if2 .left) (c .appended .ensures)
+
+pub hex-spec : {M : Type 1} → statement M
+hex-spec =
+    tie.close
+    (tie.spec
+    hex-value-requires
+    wrong-requires
+    returns
+    too-long-requires
+    returns-2
+    cast-out
+    slice-write-out
+    appended-requires
+    same-length
+    returns-3)

@@ -1,0 +1,16 @@
+use borrow.Author.Tests.{le-leb, lt-leb}
+use borrow.Author.Needs.{needs}
+use Rattle.text.proofs.compose.longer.Statement.{statement}
+use Rattle.text.proofs.compose.longer.Tie as tie
+
+add-result : tie.Need-add-result
+add-result c = search needs
+
+returns : tie.Need-returns
+returns c = rw (lt-leb (c .before .args .size) 16 (c .if1 .taken))
+
+returns-2 : tie.Need-returns-2
+returns-2 c = rw (le-leb (c .before .args .size) 16 (c .if1 .left))
+
+pub longer-spec : {M : Type 1} → statement M
+longer-spec = tie.close (tie.spec add-result returns returns-2)

@@ -1,0 +1,23 @@
+use borrow.Author.Needs.{needs}
+use Rattle.text.proofs.compose.push.Statement.{statement}
+use Rattle.text.proofs.compose.push.Tie as tie
+
+stored-requires : tie.Need-stored-requires
+stored-requires c κs = search needs
+
+longer-requires : tie.Need-longer-requires
+longer-requires c κs = search needs
+
+grown-requires : tie.Need-grown-requires
+grown-requires c κs = search needs
+
+takes-digit-requires : tie.Need-takes-digit-requires
+takes-digit-requires c κs = search needs
+
+returns : tie.Need-returns
+returns c = cc
+
+pub push-spec : {M : Type 1} → statement M
+push-spec =
+    tie.close
+    (tie.spec stored-requires longer-requires grown-requires takes-digit-requires returns)

@@ -1,0 +1,50 @@
+use Rattle.text.specs.Composed.{made}
+use Rattle.text.proofs.Machine.{settle-none, settle-hex, settle-number, settle-word}
+use borrow.Author.Needs.{needs}
+use Rattle.text.proofs.compose.settle.Statement.{statement}
+use Rattle.text.proofs.compose.settle.Tie as tie
+
+returns : tie.Need-returns
+returns c = settle-none (made (c .before .before .before .before .args .d) (c .before .before .before .before .args .out .now)) (c .if1 .taken)
+
+hex-requires : tie.Need-hex-requires
+hex-requires c κs = search needs
+
+same-length : tie.Need-same-length
+same-length c = search needs
+
+returns-2 : tie.Need-returns-2
+returns-2 c = settle-hex (made (c .before .before .before .before .before .before .before .before .before .before .args .d) (c .before .before .before .before .before .before .before .before .before .before .args .out .now)) _ (c .before .before .before .before .before .before .if1 .left) (c .before .before .before .before .if2 .taken) (c .before .before .hex .ensures)
+
+put-requires : tie.Need-put-requires
+put-requires c κs = search needs
+
+returns-3 : tie.Need-returns-3
+returns-3 c = settle-number (made (c .before .before .before .before .before .before .before .before .args .d) (c .before .before .before .before .before .before .before .before .args .out .now)) _ (c .before .before .before .before .if1 .left) (c .before .before .if2 .left) (c .before .if3 .taken) (c .put .ensures)
+
+place-of-requires : tie.Need-place-of-requires
+place-of-requires c κs = search needs
+
+understood-requires : tie.Need-understood-requires
+understood-requires c κs = search needs
+
+same-length-2 : tie.Need-same-length-2
+same-length-2 c = search needs
+
+returns-4 : tie.Need-returns-4
+returns-4 c = settle-word (made (c .before .before .before .before .before .before .before .before .before .before .before .before .before .args .d) (c .before .before .before .before .before .before .before .before .before .before .before .before .before .args .out .now)) _ _ (c .before .before .before .before .before .before .before .before .before .if1 .left) (c .before .before .before .before .before .before .before .if2 .left) (c .before .before .before .before .before .before .if3 .left) (c .before .before .before .before .place-of .ensures) (c .before .before .understood .ensures)
+
+pub settle-spec : {M : Type 1} → statement M
+settle-spec =
+    tie.close
+    (tie.spec
+    returns
+    hex-requires
+    same-length
+    returns-2
+    put-requires
+    returns-3
+    place-of-requires
+    understood-requires
+    same-length-2
+    returns-4)

@@ -1,0 +1,39 @@
+use mathlib.Core.Path.{sym, _∙_, ap}
+use Rattle.text.specs.Composed.{made, withWord}
+use Rattle.text.proofs.Machine.{typed-pair, typed-on}
+use borrow.Author.Needs.{needs}
+use Rattle.text.proofs.compose.typed.Statement.{statement}
+use Rattle.text.proofs.compose.typed.Tie as tie
+
+push-requires : tie.Need-push-requires
+push-requires c κs = search needs
+
+with-word-requires : tie.Need-with-word-requires
+with-word-requires c κs = search needs
+
+is-pair-requires : tie.Need-is-pair-requires
+is-pair-requires c κs = search needs
+
+hex-requires : tie.Need-hex-requires
+hex-requires c κs = search needs
+
+same-length : tie.Need-same-length
+same-length c = search needs
+
+returns : tie.Need-returns
+returns c = typed-pair (made (c .before .before .before .before .before .before .before .before .before .before .args .d) (c .before .before .before .before .before .before .before .before .before .before .args .out .now)) (c .before .before .before .before .before .before .before .before .before .before .args .byte) _ _ (c .before .before .before .before .before .before .with-word .ensures ∙ ap (withWord (c .before .before .before .before .before .before .before .before .before .before .args .d)) (c .before .before .before .before .before .before .before .push .ensures)) (sym (c .before .before .before .before .before .is-pair .ensures) ∙ c .before .before .before .before .if1 .taken) (c .before .before .hex .ensures)
+
+returns-2 : tie.Need-returns-2
+returns-2 c = typed-on (made (c .before .before .before .before .before .before .args .d) (c .before .before .before .before .before .before .args .out .now)) (c .before .before .before .before .before .before .args .byte) _ (c .before .before .with-word .ensures ∙ ap (withWord (c .before .before .before .before .before .before .args .d)) (c .before .before .before .push .ensures)) (sym (c .before .is-pair .ensures) ∙ c .if1 .left)
+
+pub typed-spec : {M : Type 1} → statement M
+typed-spec =
+    tie.close
+    (tie.spec
+    push-requires
+    with-word-requires
+    is-pair-requires
+    hex-requires
+    same-length
+    returns
+    returns-2)

@@ -1,0 +1,119 @@
+-- What records are shown as.
+use Prim.Native.Nat.{ℕ, zero, suc, _+_, _*_, _-_, _/_, _%_}
+use mathlib.Core.Bool.{Bool, true, false, cond, not, _&&_, _||_}
+use mathlib.Core.List.{List, [], _∷_, _++_}
+use lib.Dec.{leb, eqb, ltb}
+use lib.ListN.{length, getD, take, drop}
+use Rattle.bearers.specs.Sets.{member}
+use Rattle.lines.specs.Text.{size, digits}
+use Rattle.records.specs.Record.{recordOf}
+use Rattle.records.specs.Stream.{takesBearers}
+use Rattle.records.specs.declared.Record.{Record}
+use Rattle.text.specs.declared.show.Sheet.{Sheet}
+use Rattle.text.specs.declared.show.Shown.{Shown}
+use Rattle.text.specs.Words.{wordAt}
+use Rattle.text.specs.Composed.{isSet}
+
+-- a space and a number, a space and a word
+abbrev pub numberText : ℕ → List ℕ
+numberText n = 32 ∷ digits (size n) n
+
+abbrev pub spacedWord : ℕ → List ℕ
+spacedWord k = 32 ∷ wordAt k
+
+-- "sets as lists of IDs"
+abbrev pub idText : ℕ → ℕ → List ℕ
+idText s k = cond (member s k) (numberText k) []
+
+-- so many IDs from one on
+unfoldable pub idsText : ℕ → ℕ → ℕ → List ℕ
+idsText s k zero = []
+idsText s k (suc n) = idText s k ++ idsText s (suc k) n
+
+-- the fields of a record, in the order of the table
+abbrev pub valuesOf : Record → List ℕ
+valuesOf r =
+    r .kind ∷ r .neighbour ∷ r .old .0 ∷ r .new .0 ∷ r .first ∷ r .second ∷ r .reason ∷ r .byte11 ∷ r .number ∷ r .time
+    ∷ r .erab ∷ r .qci ∷ r .priority ∷ r .flags ∷ r .bytes28 ∷ []
+
+-- a kind's word; a kind without one is `kind` and its number
+abbrev pub kindWord : ℕ → ℕ
+kindWord kind = cond (leb kind 17) kind 0
+
+abbrev pub kindText : ℕ → List ℕ
+kindText kind = wordAt (kindWord kind) ++ cond (leb 1 (kindWord kind)) [] (numberText kind)
+
+-- a field's word: the number of a request is a count, that of a bearer its units
+abbrev pub fieldWord : ℕ → ℕ → ℕ
+fieldWord kind f = cond (eqb f 8 && eqb kind 1) 33 (cond (eqb f 8 && eqb kind 16) 32 (17 + f))
+
+abbrev pub valueText : ℕ → ℕ → List ℕ
+valueText f v = cond (isSet f) (idsText (v % 65536) 0 16) (numberText v)
+
+-- "the name and value of each field that is not zero"
+unfoldable pub fieldText : ℕ → ℕ → ℕ → List ℕ
+fieldText kind f v = cond (eqb v 0) [] (spacedWord (fieldWord kind f) ++ valueText f v)
+
+-- the fields from one on
+unfoldable pub fieldsText : ℕ → ℕ → List ℕ → List ℕ
+fieldsText kind f [] = []
+fieldsText kind f (v ∷ vs) = fieldText kind f v ++ fieldsText kind (suc f) vs
+
+-- a record
+abbrev pub recordText : Record → List ℕ
+recordText r = kindText (r .kind) ++ fieldsText (r .kind) 1 (drop 1 (valuesOf r))
+
+-- whether a record is a bearer of the request on the open line
+abbrev pub joins : Sheet → Record → Bool
+joins s r = leb 1 (s .owed) && eqb (r .kind) 16
+
+-- how many bearers may follow a record on its line
+abbrev pub owedAfter : Sheet → Record → ℕ
+owedAfter s r = cond (joins s r) (s .owed - 1) (cond (takesBearers r) (r .number) 0)
+
+-- "a request with its bearers on one line": a space before a bearer, a line feed where another line is open
+abbrev pub gapText : Sheet → Record → List ℕ
+gapText s r = cond (joins s r) (32 ∷ []) (cond (s .begun) (10 ∷ []) [])
+
+abbrev pub eventText : Sheet → Record → List ℕ
+eventText s r = gapText s r ++ recordText r
+
+abbrev pub newSheet : Sheet
+newSheet = record { owed = 0; begun = false }
+
+-- whether a record is shown: it is whole, and any record's text has room
+abbrev pub isShown : ℕ → List ℕ → Bool
+isShown room bytes = leb 32 (length bytes) && leb 4980 room
+
+abbrev pub shownText : ℕ → List ℕ → Sheet → List ℕ
+shownText room bytes s = cond (isShown room bytes) (eventText s (recordOf (take 32 bytes))) []
+
+abbrev pub sheetAfter : Sheet → Record → Sheet
+sheetAfter s r = record { owed = owedAfter s r; begun = true }
+
+abbrev pub shownOf : ℕ → List ℕ → Sheet → Shown
+shownOf room bytes s =
+    let r = recordOf (take 32 bytes) in
+    cond (isShown room bytes)
+    record { sheet = sheetAfter s r; taken = 32; written = length (eventText s r) }
+    record { sheet = s; taken = 0; written = 0 }
+
+-- bytes as hexadecimal digits, two each
+abbrev pub hexDigit : ℕ → ℕ
+hexDigit n = cond (leb n 9) (48 + n) (87 + n)
+
+unfoldable pub bytesText : List ℕ → List ℕ
+bytesText [] = []
+bytesText (b ∷ bs) = hexDigit (b / 16) ∷ hexDigit (b % 16) ∷ bytesText bs
+
+-- "a short piece as raw and its hex digits"
+abbrev pub rawText : List ℕ → List ℕ
+rawText rest = wordAt 36 ++ (32 ∷ (bytesText rest ++ (10 ∷ [])))
+
+abbrev pub endText : Bool → List ℕ
+endText begun = cond begun (10 ∷ []) []
+
+-- the open line ends, and what is left of a record is shown
+abbrev pub lastText : ℕ → List ℕ → Sheet → List ℕ
+lastText room rest s =
+    cond (leb (length rest) 31 && leb 96 room) (cond (eqb (length rest) 0) (endText (s .begun)) (endText (s .begun) ++ rawText rest)) []
