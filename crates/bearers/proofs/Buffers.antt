@@ -1,8 +1,8 @@
 -- What stands in the verdict buffer afterwards: one byte per bearer in request order, the rest untouched.
 use Prim.Native.Nat.{ℕ, _/_, _≤_, _<_}
-use mathlib.Core.Path.{_≡_, refl, _∙_, sym}
-use mathlib.Core.Bool.{true, false}
-use mathlib.Core.List.{List, _++_, map}
+use mathlib.Core.Path.{_≡_, _∙_}
+use mathlib.Core.Bool.{true}
+use mathlib.Core.List.{List, map}
 use borrow.Author.Tests.{le-leb}
 use native.Mathlib.Omega.{arith}
 use lib.Dec.{leb}

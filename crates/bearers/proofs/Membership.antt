@@ -1,10 +1,10 @@
 -- What the numbers of `Sets` mean as sets. Each law is shown bit by bit, and two numbers with the same bits are one.
 use Prim.Native.Nat.{ℕ, zero, suc, _/_, _%_, _^_, _<_, _≤_, min, max}
 use mathlib.Core.Path.{_≡_, refl, sym, ap, _∙_, subst}
-use mathlib.Core.Bool.{Bool, true, false, cond, _&&_, _||_, true≢false}
+use mathlib.Core.Bool.{Bool, true, false, cond, _&&_, _||_}
 use mathlib.Core.List.{List, [], _∷_}
 use mathlib.Core.Logic.{_↔_, ⊎-elim}
-use borrow.Author.Tests.{lt-ltb, ltb-true, ltb-false, eq-eqb, eqb-true, eqb-false}
+use borrow.Author.Tests.{lt-ltb, ltb-true, eq-eqb, eqb-true, eqb-false}
 use native.Mathlib.Nat.{div-eq-of-lt, div-one, lt-of-lt-of-le, pow-suc}
 use native.Mathlib.Numerals.{one-add}
 use native.Mathlib.Omega.{arith}
@@ -106,14 +106,6 @@ member-none k = member-above 0 k (pow-pos k)
 pub member-beyond : (s k : ℕ) → s < 2 ^ 16 → 16 ≤ k → member s k ≡ false
 member-beyond s k h over = member-above s k (lt-of-lt-of-le h (pow-mono over))
 
--- What is in a set is no more than 15.
-pub member-small : (s k : ℕ) → s < 2 ^ 16 → member s k ≡ true → k < 16
-member-small s k h m =
-    ⊎-elim
-    (λ t. ltb-true k 16 t)
-    (λ t. absurd (true≢false (sym m ∙ member-beyond s k h (ltb-false k 16 t))))
-    (split (ltb k 16))
-
 -- ---- equal sets
 
 -- Numbers with the same half and the same bit 0 are the same.
@@ -168,10 +160,6 @@ within-means a b = (
 pub add-fits : (s k : ℕ) → s < 2 ^ 16 → add s k < 2 ^ 16
 unfolding add
 add-fits s k h = ⊎-elim (λ t. rw t (or-lt 16 s (2 ^ k) h (pow-lt (ltb-true k 16 t)))) (λ t. rw t h) (split (ltb k 16))
-
--- So is a union.
-pub union-fits : (a b : ℕ) → a < 2 ^ 16 → b < 2 ^ 16 → union a b < 2 ^ 16
-union-fits a b = or-lt 16 a b
 
 -- ---- how many members a set has
 

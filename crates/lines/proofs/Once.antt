@@ -11,6 +11,7 @@ use Rattle.table.specs.declared.Station.{Station}
 use Rattle.lines.specs.declared.Progress.{Progress}
 use Rattle.lines.specs.declared.Run.{Run}
 use Rattle.lines.specs.Lines.{sizeOf, answerTo, verdictsTo, newRun, workOf, progress, leftIn}
+use Rattle.lines.specs.Text.{size, digits}
 
 -- There is one run at the start.
 pub new-once : (a b : Run) → a ≡ newRun → b ≡ newRun → a ≡ b
@@ -40,3 +41,10 @@ pub answered-once : (station : Station) (piece : Piece) (bytes verdicts : List �
     → (b ≡ answerTo (length verdicts) station bytes piece) × (w ≡ verdictsTo station bytes piece verdicts)
     → (a ≡ b) × (v ≡ w)
 answered-once station piece bytes verdicts a b v w p q = (p .0 ∙ sym (q .0), p .1 ∙ sym (q .1))
+
+-- A number has one count of digits, and of the same number, count, buffer and place there is one buffer afterwards.
+pub digits-once : (n a b : ℕ) → a ≡ size n → b ≡ size n → a ≡ b
+digits-once n a b p q = p ∙ sym q
+
+pub spell-once : (n k at : ℕ) (out v w : List ℕ) → v ≡ sets out at (digits k n) → w ≡ sets out at (digits k n) → v ≡ w
+spell-once n k at out v w p q = p ∙ sym q

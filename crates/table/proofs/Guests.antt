@@ -1,5 +1,5 @@
 -- A request leaves every record that is there as it was: it makes one, in a free place.
-use Prim.Native.Nat.{ℕ, _<_}
+use Prim.Native.Nat.{ℕ}
 use mathlib.Core.Path.{_≡_, refl, _∙_, sym}
 use mathlib.Core.Bool.{true, false, true≢false}
 use mathlib.Core.List.{List}
@@ -16,7 +16,7 @@ use Rattle.table.specs.declared.Station.{Station}
 use Rattle.table.specs.Events.{about}
 use Rattle.table.specs.Fields.{wellFormed}
 use Rattle.table.specs.Numbers.{isFree, blank}
-use Rattle.table.specs.Step.{stepOf, requestOf, repeatOf, admittedAt, admission, complete, taken}
+use Rattle.table.specs.Step.{stepOf, repeatOf, admittedAt, admission, complete, taken}
 use Rattle.table.specs.Table.{find}
 use Rattle.table.proofs.Finding.{found-at}
 

@@ -175,8 +175,3 @@ module _ (p : ℕ) (a : Answer) where
   -- A request's Old ID and an acknowledge's New ID are the own ID that is issued.
   pub request-issues : to 1 p a ≡ true → issued a ≡ some (sent a .old .0)
   request-issues t = rw (eq-eqb (sent a .kind) 1 (to-means 1 t .0))
-
-  pub acknowledge-issues : to 2 p a ≡ true → issued a ≡ some (sent a .new .0)
-  acknowledge-issues t =
-      let two = to-means 2 t .0 in
-      rw (ne-eqb (sent a .kind) 1 (λ one. omega arith), eq-eqb (sent a .kind) 2 two)

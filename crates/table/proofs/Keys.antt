@@ -1,10 +1,10 @@
 -- What it is for an event to be about a record.
 use Prim.Native.Nat.{ℕ, _≤_}
 use mathlib.Core.Path.{_≡_}
-use mathlib.Core.Bool.{Bool, true, false, not, _&&_, _||_}
-use borrow.Author.Tests.{leb-true, ne-eqb}
+use mathlib.Core.Bool.{Bool, true, not, _&&_, _||_}
+use borrow.Author.Tests.{leb-true}
 use lib.Dec.{leb, eqb}
-use Rattle.laws.proofs.Tests.{by-cases, both-true}
+use Rattle.laws.proofs.Tests.{both-true}
 use Rattle.records.specs.declared.Record.{Record}
 use Rattle.table.specs.declared.Entry.{Entry}
 use Rattle.table.specs.Events.{keyed, newFits}
@@ -13,10 +13,6 @@ use Rattle.table.specs.Numbers.{isFree}
 -- whether a place holds a record of a neighbour
 abbrev pub isOf : ℕ → Entry → Bool
 isOf n r = not (isFree r) && eqb (r .neighbour) n
-
--- A record of another neighbour is none of its.
-pub of-other : (n : ℕ) (r : Entry) → (r .neighbour ≡ n → ⊥) → isOf n r ≡ false
-of-other n r other = by-cases (isFree r) (λ t. rw t) (λ t. rw t (ne-eqb (r .neighbour) n other))
 
 -- The record's state is one of those looked at, and its neighbour and its IDs are the event's where they are compared.
 pub record Keyed (by : ℕ → ℕ) (e : Record) (r : Entry) : Type 0 where

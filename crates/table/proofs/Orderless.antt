@@ -24,7 +24,7 @@ use Rattle.table.specs.Step.{aboutOne, carried, stepOf}
 use Rattle.table.specs.Table.{find, put, reset, tally}
 use Rattle.table.proofs.Finding.{found-at, found-none}
 use Rattle.table.proofs.Keys.{isOf, keyed-means}
-use Rattle.table.proofs.Neighbours.{Agree, decide-deadline, step-reset}
+use Rattle.table.proofs.Neighbours.{decide-deadline, step-reset}
 use Rattle.table.proofs.Resetting.{after, reset-at}
 use Rattle.table.proofs.Strangers.{below-at, about-of, answers-concern, step-about}
 use Rattle.table.proofs.Tally.{tally-at, tally-set, tally-none}
@@ -37,11 +37,6 @@ Has n s t = (i : ℕ) → i < 64 → isOf n (getD (s .entries) i blank) ≡ true
 pub record Same (n : ℕ) (s t : Station) : Type 0 where
   pub there : Has n s t
   pub back : Has n t s
-
--- Records at the same places are the same.
-pub agree-same : (n : ℕ) (s t : Station) → Agree n s t → Same n s t
-agree-same n s t agree =
-    record { there = λ i h of. (i, h, sym (agree .here i h of)); back = λ i h of. (i, h, agree .there i h of) }
 
 -- ---- a record is found at one place only
 

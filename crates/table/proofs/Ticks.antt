@@ -263,12 +263,6 @@ module _ (e : Record) (kind : e .kind ≡ 15) where
         absurd (omega arith))
         (λ t. ⊎-elim (λ one. absurd (omega (arith, one .0))) (λ none. none .1) (tick-fewer s bearers room t (soonest e s) refl .1))
 
-    -- Each tick with reply 0 leaves one due record fewer.
-    pub tick-counts : (s : Station) (bearers : List ℕ) (room : ℕ) → ltb (e .time) (s .clock) ≡ false → stepOf s e bearers room .outcome .reply ≡ 0 → dues e (stepOf s e bearers room .station) + 1 ≡ dues e s
-    tick-counts s bearers room late zero-reply =
-        ⊎-elim (λ one. one .1) (λ none. absurd (omega (arith, none .0)))
-        (tick-fewer s bearers room late (soonest e s) refl .1)
-
     -- Where no record is due, a tick has reply 9.
     pub tick-ends : (s : Station) (bearers : List ℕ) (room : ℕ) → ltb (e .time) (s .clock) ≡ false → dues e s ≡ 0 → stepOf s e bearers room .outcome .reply ≡ 9
     tick-ends s bearers room late none =

@@ -17,7 +17,7 @@ use Rattle.table.specs.declared.Found.the-variants.{At, Nothing}
 use Rattle.table.specs.declared.Station.{Station}
 use Rattle.table.specs.Events.{about, actions, actionOf, decide, decision, refusal, silence, lastWord, prepared, stored, serving, listsFit, setFits}
 use Rattle.table.specs.Fields.{wellFormed}
-use Rattle.table.specs.Numbers.{isFree, isHeld, isOutgoing, isIncoming, blank}
+use Rattle.table.specs.Numbers.{isFree, isHeld, isIncoming, blank}
 use Rattle.table.specs.Sound.{Fit, Sound}
 use Rattle.table.specs.Step.{carried, aboutOne, startAt, tickAt, resetOf, repeatOf, admittedAt, requestOf, stepOf, admission, taken, complete}
 use Rattle.table.specs.Table.{find, soonest, at, tally}
@@ -309,13 +309,6 @@ module _ (s : Station) (sound : Sound s) (e : Record) (bearers : List ℕ) (room
       let late = tick-handles e kind formed s bearers room done .0 in
       let back = tally-at (λ x. x .units) (s .entries) i blank (omega (arith, due-place s sound e i found, sound .places)) in
       subst (λ (t : Station). t .used + getD (s .entries) i blank .units ≡ s .used) (sym (tick-one e kind formed s bearers room late i found .1)) (omega (arith, sound .sum))
-
-  -- An outgoing record has none.
-  pub outgoing-none : (i : ℕ) → i < 64 → isOutgoing (getD (s .entries) i blank) ≡ true → getD (s .entries) i blank .units ≡ 0
-  outgoing-none i place t =
-      let r = getD (s .entries) i blank in
-      let most = leb-true (r .state) 2 (both-true (leb 1 (r .state)) (leb (r .state) 2) t .1) in
-      sound .fit i place .units (lt-leb 3 (r .state) (omega arith))
 
   -- A reset takes back exactly the units of the held records of that neighbour.
   pub units-reset : wellFormed e ≡ true → (eqb (e .kind) 7 || eqb (e .kind) 14) ≡ true → stepOf s e bearers room .station .used + tally (heldUnits e) (s .entries) ≡ s .used

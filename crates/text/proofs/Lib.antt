@@ -1,3 +1,4 @@
 pub mod Digits
 pub mod Machine
+pub mod Once
 pub mod Writing
