@@ -14,13 +14,14 @@ use Rattle.table.specs.declared.Answer.{Answer}
 use Rattle.table.specs.declared.Station.{Station}
 use Rattle.table.specs.Numbers.{nextAfter}
 use Rattle.table.specs.Views.{count, times, ids, last, Walk, land, pass, issued, Issues, IssuesNone, Laws}
+use Rattle.table.proofs.Issuing.{next-small}
 use Rattle.pair.specs.World.{Numbers, issuing}
-use Rattle.pair.proofs.Ring.{distance, ahead, next-below, distance-self, distance-range, distance-next, distance-step, count-length, ahead-step}
+use Rattle.pair.proofs.Ring.{distance, ahead, distance-self, distance-range, distance-next, distance-step, count-length, ahead-step}
 
 -- An own ID that the search finds is below 4,096, and is not in use.
 pub walk-below : (used : List ℕ) (c j : ℕ) → c < 4096 → Walk used c j → j < 4096
-walk-below used c j low (land next free) = rw next (next-below c low)
-walk-below used c j low (pass taken on) = walk-below used (nextAfter c) j (next-below c low) on
+walk-below used c j low (land next free) = rw next (next-small c low)
+walk-below used c j low (pass taken on) = walk-below used (nextAfter c) j (next-small c low) on
 
 pub walk-free : (used : List ℕ) (c j : ℕ) → Walk used c j → times j used ≡ 0
 walk-free used c j (land next free) = free
@@ -39,7 +40,7 @@ module _ (used : List ℕ) (room : length used < 64) (small : count (leb 4096) u
         omega arith,
   )
   searched c j low (pass taken on) ledger =
-      searched (nextAfter c) j (next-below c low) on
+      searched (nextAfter c) j (next-small c low) on
       (by-cases (eqb i (nextAfter c))
       (λ t.
       let far : distance (nextAfter c) i ≡ 4096 = ap (distance (nextAfter c)) (eqb-true i (nextAfter c) t) ∙ distance-self (nextAfter c) in

@@ -11,9 +11,9 @@ use Rattle.records.specs.declared.Record.{Record}
 use Rattle.table.specs.Events.{message}
 use Rattle.table.specs.Views.{Prepared, out}
 use Rattle.pair.specs.Theorem.{AsFixed, Settled, AtRest}
-use Rattle.pair.specs.World.{Side, A, B, Refused, Fixed, Handover, Envelope, World, Bounded, Run}
+use Rattle.pair.specs.World.{Side, A, B, Refused, Fixed, Handover, Envelope, World, Bounded, Run, withQueue}
 use Rattle.pair.proofs.Runs.{peer, both, history, fresh, starts, grants, answered, unanswered, arrives}
-use Rattle.pair.proofs.Scripts.{Move, does, underWay, after, in-range, isBounded, bounded, played, playable, Steps, steps, run-on}
+use Rattle.pair.proofs.Scripts.{Move, does, after, in-range, isBounded, bounded, played, playable, Steps, steps, run-on}
 use Rattle.pair.proofs.Settling.{isSettled, settled}
 
 -- ---- what is supposed not to happen
@@ -32,11 +32,11 @@ Forges w w' = (s : Side) × (e : Record) × InRange e × (w' ≡ after peer w (d
 
 -- against "unaltered": the oldest message under way becomes another
 abbrev pub Alters : World → World → Type 0
-Alters w w' = (s : Side) × (m : Record) × (w' ≡ underWay s (altered m (w .queue s)) w)
+Alters w w' = (s : Side) × (m : Record) × (w' ≡ withQueue w s (altered m (w .queue s)))
 
 -- against "at most once": there are two of the oldest message under way
 abbrev pub Doubles : World → World → Type 0
-Doubles w w' = (s : Side) × (w' ≡ underWay s (doubled (w .queue s)) w)
+Doubles w w' = (s : Side) × (w' ≡ withQueue w s (doubled (w .queue s)))
 
 -- ---- runs in which it happens
 
@@ -90,7 +90,7 @@ pub unaltered-needed : Breaks Alters (λ w. AsFixed peer w A)
 unfolding played playable
 unaltered-needed =
     let w = played peer both (starts ∷ grants ∷ []) in
-    let v = underWay B (altered (another 1) (w .queue B)) w in
+    let v = withQueue w B (altered (another 1) (w .queue B)) in
     breaks (starts ∷ grants ∷ []) (answered ∷ []) v refl (B, another 1, refl) refl
     (not-as-fixed (played peer v (answered ∷ [])) refl refl refl)
 
@@ -107,6 +107,6 @@ pub once-needed : Breaks Doubles (λ w. Settled peer w → AtRest peer w A)
 unfolding played playable isSettled
 once-needed =
     let w = played peer both (starts ∷ []) in
-    let v = underWay A (doubled (w .queue A)) w in
+    let v = withQueue w A (doubled (w .queue A)) in
     let rest = grants ∷ arrives ∷ unanswered ∷ unanswered ∷ grants ∷ answered ∷ [] in
     breaks (starts ∷ []) rest v refl (A, refl) refl (not-at-rest (played peer v rest) refl refl)

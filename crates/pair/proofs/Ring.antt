@@ -11,6 +11,7 @@ use lib.ListN.{length}
 use Rattle.laws.proofs.Tests.{by-cases}
 use Rattle.table.specs.Numbers.{nextAfter}
 use Rattle.table.specs.Views.{count, times}
+use Rattle.table.proofs.Issuing.{next-small}
 
 -- so many steps up from c to i: 1 to 4,096, and 4,096 from one to itself
 abbrev pub distance : ℕ → ℕ → ℕ
@@ -21,9 +22,6 @@ abbrev pub ahead : ℕ → ℕ → List ℕ → ℕ
 ahead c i xs = count (λ x. ltb (distance c x) (distance c i)) xs
 
 -- ---- distances
-
-pub next-below : (c : ℕ) → c < 4096 → nextAfter c < 4096
-next-below c low = by-cases (eqb c 4095) (λ t. rw t (omega arith)) (λ t. rw t (let apart = eqb-false c 4095 t in omega arith))
 
 up : (c i : ℕ) → c < i → distance c i ≡ i - c
 up c i above = rw (lt-ltb c i above)
@@ -94,7 +92,7 @@ pub ahead-step : (c i : ℕ) → c < 4096 → i < 4096 → (i ≡ nextAfter c �
     → ahead c i xs ≡ ahead (nextAfter c) i xs + times (nextAfter c) xs
 ahead-step c i low small apart xs =
     let nearer = distance-step c i low small apart in
-    let range = distance-range (nextAfter c) i (next-below c low) small in
+    let range = distance-range (nextAfter c) i (next-small c low) small in
     count-sum (λ x. ltb (distance c x) (distance c i)) (λ x. ltb (distance (nextAfter c) x) (distance (nextAfter c) i)) (eqb (nextAfter c)) xs
     (λ x fits. one-entry (distance c x) (distance c i) (distance (nextAfter c) x) (distance (nextAfter c) i) (nextAfter c) x nearer
     (λ same. omega (arith, ap (distance c) (sym same) ∙ distance-next c low, range .0))

@@ -20,7 +20,7 @@ use Rattle.table.specs.Numbers.{anyOf, issueFrom}
 use Rattle.table.specs.Step.{stepOf}
 use Rattle.table.specs.Table.{findFrom, dueFrom, tally}
 use Rattle.table.specs.Views.{named, out, held, due}
-use Rattle.pair.specs.World.{Side, A, B, other, put, Numbers, Envelope, World, act, asSent, Carries, request, plain, isFrom, own, take, All, nothing, more, Recent, Bounded, Acts, Step, acts, loses, Run, next}
+use Rattle.pair.specs.World.{Side, A, B, other, Numbers, Envelope, World, act, asSent, Carries, request, plain, isFrom, own, take, All, nothing, more, Recent, Bounded, withQueue, Acts, Step, acts, loses, Run, next}
 
 -- ---- what a side does
 
@@ -60,11 +60,6 @@ carries p bearers m =
     by-cases (eqb (m .kind) 1) (λ t. rw t (request (eqb-true (m .kind) 1 t) refl refl refl))
     (λ t. rw t (plain (λ k. false≢true (sym t ∙ eq-eqb (m .kind) 1 k)) refl))
 
--- the world with these messages under way from a side
-abbrev pub underWay : Side → List Envelope → World → World
-underWay s ms w =
-    record { station = w .station; queue = put s ms (w .queue); numbers = w .numbers; fixedFor = w .fixedFor; handovers = w .handovers }
-
 module _ (peer : Side → ℕ) where
   abbrev pub hearing : World → Side → List ℕ → List Envelope → World
   hearing w s bearers [] = w
@@ -74,7 +69,7 @@ module _ (peer : Side → ℕ) where
 
   abbrev pub missing : World → Side → List Envelope → World
   missing w s [] = w
-  missing w s (m ∷ rest) = underWay (other s) rest w
+  missing w s (m ∷ rest) = withQueue w (other s) rest
 
   -- the world after a move
   abbrev pub after : World → Move → World
