@@ -3,7 +3,7 @@ use Prim.Native.Nat.{ℕ, zero, suc, _/_, _%_, _^_, _<_, _≤_, min, max}
 use mathlib.Core.Path.{_≡_, refl, sym, ap, _∙_, subst}
 use mathlib.Core.Bool.{Bool, true, false, cond, _&&_, _||_}
 use mathlib.Core.List.{List, [], _∷_}
-use mathlib.Core.Logic.{_↔_, ⊎-elim}
+use mathlib.Core.Logic.{_↔_}
 use borrow.Author.Tests.{lt-ltb, ltb-true, eq-eqb, eqb-true, eqb-false}
 use native.Mathlib.Nat.{div-eq-of-lt, div-one, lt-of-lt-of-le, pow-suc}
 use native.Mathlib.Numerals.{one-add}
@@ -13,7 +13,7 @@ use lib.Bits.{bitAnd, bitOr, or-step, and-step, or-shr, and-shr, or-comm, or-lt,
 use lib.Count.{ones, ones-step}
 use lib.Dec.{ltb, eqb, eqb·suc-zero, eqb·zero-suc, eqb·suc-suc}
 use lib.Pow.{pow-pos, pow-lt, pow-mono, shr-shr}
-use Rattle.laws.proofs.Tests.{split}
+use Rattle.laws.proofs.Tests.{by-cases}
 use Rattle.bearers.specs.Sets.{member, add, union, disjoint, within, setOf, among}
 
 -- ---- one bit
@@ -21,10 +21,9 @@ use Rattle.bearers.specs.Sets.{member, add, union, disjoint, within, set
 -- What holds of 0 and of 1 holds of a lowest digit.
 digit : (P : ℕ → Type 0) → P 0 → P 1 → (n : ℕ) → P (n % 2)
 digit P unset is-set n =
-    ⊎-elim
+    by-cases (eqb (n % 2) 1)
     (λ t. subst P (sym (eqb-true (n % 2) 1 t)) is-set)
     (λ t. let e : 0 ≡ n % 2 = omega (arith, eqb-false (n % 2) 1 t) in subst P e unset)
-    (split (eqb (n % 2) 1))
 
 -- A bit above all of a number's digits is not set.
 pub member-above : (s k : ℕ) → s < 2 ^ k → member s k ≡ false
@@ -92,7 +91,7 @@ member-both a b k =
 pub member-added : (s k j : ℕ) → member (add s k) j ≡ (ltb k 16 && eqb j k || member s j)
 unfolding add
 member-added s k j =
-    ⊎-elim (λ t. rw t (rw (or-comm s (2 ^ k), member-union (2 ^ k) s j, member-power k j))) (λ t. rw t) (split (ltb k 16))
+    by-cases (ltb k 16) (λ t. rw t (rw (or-comm s (2 ^ k), member-union (2 ^ k) s j, member-power k j))) (λ t. rw t)
 
 -- The same of an ID that is no more than 15.
 pub member-add : (s k j : ℕ) → k < 16 → member (add s k) j ≡ (eqb j k || member s j)
@@ -144,14 +143,14 @@ both-means a b s = (
 pub disjoint-means : (a b : ℕ) → (disjoint a b ≡ true) ↔ ((k : ℕ) → member a k ≡ true → member b k ≡ false)
 disjoint-means a b = (
   λ t k m. rw m at (both-means a b 0 .0 t k ∙ member-none k),
-  λ h. both-means a b 0 .1 (λ k. rw (member-none k) (⊎-elim (λ t. rw t (h k t)) (λ t. rw t) (split (member a k)))),
+  λ h. both-means a b 0 .1 (λ k. rw (member-none k) (by-cases (member a k) (λ t. rw t (h k t)) (λ t. rw t))),
 )
 
 -- A set is within another exactly if each member of the one is a member of the other.
 pub within-means : (a b : ℕ) → (within a b ≡ true) ↔ ((k : ℕ) → member a k ≡ true → member b k ≡ true)
 within-means a b = (
   λ t k m. rw m at (both-means a b a .0 t k),
-  λ h. both-means a b a .1 (λ k. ⊎-elim (λ t. rw t (h k t)) (λ t. rw t) (split (member a k))),
+  λ h. both-means a b a .1 (λ k. by-cases (member a k) (λ t. rw t (h k t)) (λ t. rw t)),
 )
 
 -- ---- sets are 16-bit numbers
@@ -159,7 +158,7 @@ within-means a b = (
 -- A set with an ID more is a 16-bit number.
 pub add-fits : (s k : ℕ) → s < 2 ^ 16 → add s k < 2 ^ 16
 unfolding add
-add-fits s k h = ⊎-elim (λ t. rw t (or-lt 16 s (2 ^ k) h (pow-lt (ltb-true k 16 t)))) (λ t. rw t h) (split (ltb k 16))
+add-fits s k h = by-cases (ltb k 16) (λ t. rw t (or-lt 16 s (2 ^ k) h (pow-lt (ltb-true k 16 t)))) (λ t. rw t h)
 
 -- ---- how many members a set has
 
@@ -201,7 +200,7 @@ bounds false q false rest same = refl
 -- The members of the set of a list are those of the list that are no more than 15.
 pub member-setOf : (ks : List ℕ) (k : ℕ) → member (setOf ks) k ≡ (ltb k 16 && among k ks)
 unfolding setOf among
-member-setOf [] k = member-none k ∙ ⊎-elim (λ t. rw t) (λ t. rw t) (split (ltb k 16))
+member-setOf [] k = member-none k ∙ by-cases (ltb k 16) (λ t. rw t) (λ t. rw t)
 member-setOf (x ∷ ks) k =
     member-added (setOf ks) x k
     ∙ rw (member-setOf ks k) (bounds (ltb x 16) (ltb k 16) (eqb k x) (among k ks) (λ t. rw (eqb-true k x t)))

@@ -1,7 +1,7 @@
 -- Admission at the target. What bearers are judged by is a list of them, in the order of the request; which QCIs are GBR
 -- classes is a parameter, `gbr`.
 use Prim.Native.Nat.{ℕ, zero, suc, _+_, _-_, _/_, _%_}
-use mathlib.Core.Bool.{Bool, true, false, cond, not, _&&_}
+use mathlib.Core.Bool.{Bool, cond, not, _&&_}
 use mathlib.Core.List.{List, [], _∷_, _++_, map}
 use lib.Count.{ones}
 use lib.Dec.{leb, ltb, eqb}

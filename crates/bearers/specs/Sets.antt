@@ -1,6 +1,6 @@
 -- Sets of E-RAB IDs, 0 to 15, as 16-bit numbers: bit k is set where ID k is in the set.
 use Prim.Native.Nat.{ℕ, _/_, _%_, _^_}
-use mathlib.Core.Bool.{Bool, true, false, cond, _||_}
+use mathlib.Core.Bool.{Bool, false, cond, _||_}
 use mathlib.Core.List.{List, [], _∷_}
 use lib.Bits.{bitAnd, bitOr}
 use lib.Dec.{ltb, eqb}

@@ -2,7 +2,7 @@
 -- after, is what it writes of the stream.
 use Prim.Native.Nat.{ℕ, zero, suc, _+_, _*_, _-_, _≤_, _<_}
 use mathlib.Core.Path.{_≡_, refl, sym, ap, _∙_}
-use mathlib.Core.Bool.{Bool, true, false, cond, false≢true}
+use mathlib.Core.Bool.{Bool, true, false, false≢true}
 use mathlib.Core.List.{List, [], _∷_, _++_, append-nil, append-assoc}
 use mathlib.Core.Logic.{_⊎_, inl, inr, ⊎-elim}
 use borrow.Author.Tests.{leb-true, leb-false, le-leb, lt-leb, eqb-true}
@@ -10,7 +10,7 @@ use native.Mathlib.Omega.{arith}
 use lib.Dec.{leb, eqb}
 use lib.ListN.{length, take, drop, length-append, length-drop}
 use lib.Seq.{take-append-le, drop-append-le, drop-drop}
-use Rattle.laws.proofs.Tests.{by-cases, both-true}
+use Rattle.laws.proofs.Tests.{by-cases, both-true, on-false}
 use Rattle.records.specs.Record.{recordOf}
 use Rattle.records.specs.Stream.{pieceAt, pieceOf, nextOf, takesBearers, bearerFirst, bearersIn}
 use Rattle.records.specs.declared.Record.{Record}
@@ -106,11 +106,6 @@ taken-by rest (Short next) h k = k .0
 taken-by rest (Single r next) h k = k .0
 taken-by rest (Request r next) h k = k .0
 
--- a test that fails leaves the other case
-unless : {A : Type 0} (b : Bool) (x y : A) → b ≡ false → cond b x y ≡ y
-unless true x y t = absurd (false≢true (sym t))
-unless false x y t = refl
-
 -- as many events as bytes are enough
 enough : (k j : ℕ) (run : Run) (stream : List ℕ) → length stream ≤ k → length stream ≤ j → linesIn k run stream ≡ linesIn j run stream
 unfolding linesIn
@@ -125,9 +120,9 @@ enough (suc k) (suc j) run stream h i =
     let some : 0 < size = taken-by stream (pieceAt stream 0) (leb-false (length stream) 0 t) (cutting.onward stream 0) in
     let rest = drop size stream in
     let fewer : length rest ≡ length stream - size = length-drop size stream in
-    unless _ _ _ t
+    on-false _ _ _ t
     ∙ ap (λ (l : List ℕ). lineFor run stream ++ l) (enough k j (after run stream) rest (omega (arith, fewer, some, h)) (omega (arith, fewer, some, i)))
-    ∙ sym (unless _ _ _ t))
+    ∙ sym (on-false _ _ _ t))
 
 -- the first event of a stream, and the others
 first-event : (run : Run) (stream : List ℕ) → 0 < length stream → linesOf run stream ≡ lineFor run stream ++ linesOf (after run stream) (drop (sizeOf (pieceAt stream 0)) stream)
@@ -139,7 +134,7 @@ first-event run stream h =
     let some : 0 < size = taken-by stream (pieceAt stream 0) h (cutting.onward stream 0) in
     let long : length stream ≡ suc most = omega arith in
     ap (λ (k : ℕ). linesIn k run stream) long
-    ∙ unless _ _ _ (lt-leb (length stream) 0 h)
+    ∙ on-false _ _ _ (lt-leb (length stream) 0 h)
     ∙ ap (λ (l : List ℕ). lineFor run stream ++ l) (enough most (length rest) (after run stream) rest (omega (arith, length-drop size stream, some)) (omega arith))
 
 -- the same with more behind it

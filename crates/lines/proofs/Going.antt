@@ -6,7 +6,7 @@ use mathlib.Core.List.{List, []}
 use native.Mathlib.Omega.{arith}
 use lib.Dec.{leb}
 use lib.ListN.{length, take, drop}
-use Rattle.records.specs.Record.{recordOf, roomAt, AreBytes, InRange}
+use Rattle.records.specs.Record.{recordOf, zeros, roomAt, AreBytes, InRange}
 use Rattle.records.specs.Stream.{pieceAt, nextOf, takesBearers, bearersIn}
 use Rattle.records.specs.declared.Record.{Record}
 use Rattle.records.specs.declared.stream.Piece.{Piece}
@@ -14,7 +14,6 @@ use Rattle.records.specs.declared.stream.Piece.the-variants.{Nothing, Short, Si
 use Rattle.records.proofs.Cutting as cutting
 use Rattle.records.proofs.RoundTrip.{in-range, bytes-take}
 use Rattle.table.specs.declared.Station.{Station}
-use Rattle.table.specs.Events.{silence}
 use Rattle.table.specs.Reached.{Reached, stepped}
 use Rattle.lines.specs.Lines.{sizeOf, isWhole, answerTo, Work, goesOn, onward, workOn}
 
@@ -59,12 +58,12 @@ bearers-part rest p r next here what =
     (subst Bearers same stands, subst (λ (q : Piece). sizeOf q ≤ length rest) same (within rest))
 
 -- The station that answered is one that a fresh one reaches: what was read of bytes is in range.
-silent-range : InRange silence
-silent-range = record { kind = omega arith; neighbour = omega arith; old = omega arith; new = omega arith; first = omega arith; second = omega arith; reason = omega arith; byte11 = omega arith; number = omega arith; time = omega arith; erab = omega arith; qci = omega arith; priority = omega arith; flags = omega arith; bytes28 = omega arith }
+zeros-range : InRange zeros
+zeros-range = record { kind = omega arith; neighbour = omega arith; old = omega arith; new = omega arith; first = omega arith; second = omega arith; reason = omega arith; byte11 = omega arith; number = omega arith; time = omega arith; erab = omega arith; qci = omega arith; priority = omega arith; flags = omega arith; bytes28 = omega arith }
 
 reached-by : (room : ℕ) (s : Station) (rest : List ℕ) (r : Record) (next end : ℕ) → Reached s → InRange r → (ended whole takes : Bool) → Reached (answerTo room s rest (cond ended Nothing (cond whole (cond takes (Request r next) (Single r 32)) (Short end))) .station)
-reached-by room s rest r next end h k true whole takes = stepped h silence silent-range [] 0
-reached-by room s rest r next end h k false false takes = stepped h silence silent-range [] 0
+reached-by room s rest r next end h k true whole takes = stepped h zeros zeros-range [] 0
+reached-by room s rest r next end h k false false takes = stepped h zeros zeros-range [] 0
 reached-by room s rest r next end h k false true false = stepped h r k [] 0
 reached-by room s rest r next end h k false true true = stepped h r k (take (next - 32) (drop 32 rest)) room
 

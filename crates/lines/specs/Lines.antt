@@ -4,13 +4,13 @@ use mathlib.Core.Bool.{Bool, true, false, cond, _&&_, _||_}
 use mathlib.Core.List.{List, [], _∷_, _++_}
 use lib.Dec.{leb, eqb}
 use lib.ListN.{length, take, drop}
+use Rattle.records.specs.Record.{zeros}
 use Rattle.records.specs.Stream.{pieceAt}
 use Rattle.records.specs.declared.stream.Piece.{Piece}
 use Rattle.records.specs.declared.stream.Piece.the-variants.{Nothing, Short, Single, Request}
 use Rattle.table.specs.declared.Answer.{Answer}
 use Rattle.table.specs.declared.Outcome.{Outcome}
 use Rattle.table.specs.declared.Station.{Station}
-use Rattle.table.specs.Events.{silence}
 use Rattle.table.specs.Step.{stepOf, verdictsOf, bornOf}
 use Rattle.lines.specs.declared.Run.{Run}
 use Rattle.lines.specs.declared.Progress.{Progress}
@@ -50,8 +50,8 @@ isWhole ended left (Request r next) = ended || eqb next (32 + r .number * 32) ||
 -- the station's answer to what stands at the front: "A request with its bearers is one event"; "A piece shorter than 32 bytes
 -- at the end is one malformed event", as a record of no kind is; so many places are lent for verdicts
 abbrev pub answerTo : ℕ → Station → List ℕ → Piece → Answer
-answerTo room s rest Nothing = stepOf s silence [] 0
-answerTo room s rest (Short next) = stepOf s silence [] 0
+answerTo room s rest Nothing = stepOf s zeros [] 0
+answerTo room s rest (Short next) = stepOf s zeros [] 0
 answerTo room s rest (Single r next) = stepOf s r [] 0
 answerTo room s rest (Request r next) = stepOf s r (take (next - 32) (drop 32 rest)) room
 

@@ -3,8 +3,6 @@ pub mod text;
 
 use crate::text::cell;
 use crate::text::cells;
-use records::NewId;
-use records::OldId;
 use records::Record;
 use records::SIZE;
 use records::stream::Piece;
@@ -19,7 +17,6 @@ ghost use mathlib.Core.List.{[]};
 ghost use lib.ListN.{length};
 ghost use lib.Seq.{sets};
 ghost use Rattle.records.specs.Stream.{pieceAt};
-ghost use Rattle.table.specs.Events.{silence};
 ghost use Rattle.table.specs.Reached.{Reached};
 ghost use Rattle.lines.specs.Lines.{lineOf, sizeOf, isWhole, answerTo, verdictsTo, newRun, workOf, progress, leftIn};
 
@@ -88,37 +85,14 @@ pub fn size_of(piece: Piece) -> usize
     }
 }
 
-// A record of no kind: what a short piece is to a station.
-fn nothing() -> Record
-    ensures { λ r. ⌜ r ≡ silence ⌝ }
-{
-    Record {
-        kind: 0,
-        neighbour: 0,
-        old: OldId(0),
-        new: NewId(0),
-        first: 0,
-        second: 0,
-        reason: 0,
-        byte11: 0,
-        number: 0,
-        time: 0,
-        erab: 0,
-        qci: 0,
-        priority: 0,
-        flags: 0,
-        bytes28: 0,
-    }
-}
-
 // A station's answer to what stands at the front of some bytes; a request's verdicts go to the buffer.
 pub fn answered(station: Station, piece: Piece, bytes: &[u8], verdicts: &mut [u8]) -> Answer
     requires { ⌜ Reached station ⌝ }
     ensures { λ a. ⌜ (a ≡ answerTo (length (now (verdicts .entry))) station (now (bytes .entry)) piece) × (now (verdicts .exit) ≡ verdictsTo station (now (bytes .entry)) piece (now (verdicts .entry))) ⌝ }
 {
     match piece {
-        Piece::Nothing => station.step(nothing()),
-        Piece::Short(_) => station.step(nothing()),
+        Piece::Nothing => station.step(Record::zeros()),
+        Piece::Short(_) => station.step(Record::zeros()),
         Piece::Single(r, _) => station.step(r),
         Piece::Request(r, next) => {
             let from = least(SIZE, bytes.len());

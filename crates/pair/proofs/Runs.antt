@@ -6,6 +6,7 @@ use mathlib.Core.Bool.{Bool, true, false, _&&_}
 use mathlib.Core.List.{List, [], _∷_}
 use Rattle.laws.proofs.Tests.{both-true}
 use Rattle.records.specs.Record.{bytesOf}
+use Rattle.table.specs.Cases as cases
 use Rattle.table.specs.Events.{message}
 use Rattle.table.specs.Step.{bornOf, stepOf}
 use Rattle.table.specs.Views.{Prepared, out}
@@ -29,25 +30,7 @@ both = start (λ s. bornOf 100 50 2000 3000)
 
 -- one bearer, of E-RAB ID 0, asking for so many units
 abbrev pub bearer : ℕ → List ℕ
-bearer units =
-    bytesOf
-    (record {
-      kind = 16;
-      neighbour = 0;
-      old = record { 0 = 0 };
-      new = record { 0 = 0 };
-      first = 0;
-      second = 0;
-      reason = 0;
-      byte11 = 0;
-      number = units;
-      time = 0;
-      erab = 0;
-      qci = 9;
-      priority = 15;
-      flags = 0;
-      bytes28 = 0;
-    })
+bearer units = bytesOf (cases.bearer 0 9 15 units)
 
 -- A starts it, B takes the request and grants or refuses it, A takes an answer or misses it
 abbrev pub starts : Move

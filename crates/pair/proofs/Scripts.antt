@@ -15,6 +15,7 @@ use Rattle.records.specs.declared.Record.{Record}
 use Rattle.bearers.specs.Admission.{total, those, turnsFrom, freeAt, verdict}
 use Rattle.bearers.specs.Bearer.{recordsIn, allBearers}
 use Rattle.bearers.specs.Sets.{add, setOf}
+use Rattle.table.specs.Cases.{numbered}
 use Rattle.table.specs.Events.{message}
 use Rattle.table.specs.Numbers.{anyOf, issueFrom}
 use Rattle.table.specs.Step.{stepOf}
@@ -29,27 +30,6 @@ pub data Move : Type 0 where
   does : Side → Record → Move
   hears : Side → List ℕ → Move
   misses : Side → Move
-
--- a message's record with a number and a time
-abbrev pub numbered : ℕ → ℕ → Record → Record
-numbered number time m =
-    record {
-      kind = m .kind;
-      neighbour = m .neighbour;
-      old = m .old;
-      new = m .new;
-      first = m .first;
-      second = m .second;
-      reason = m .reason;
-      byte11 = m .byte11;
-      number = number;
-      time = time;
-      erab = m .erab;
-      qci = m .qci;
-      priority = m .priority;
-      flags = m .flags;
-      bytes28 = m .bytes28;
-    }
 
 -- the event that a message is when it is taken
 abbrev pub arriving : ℕ → List ℕ → Record → Record

@@ -10,7 +10,7 @@ use lib.Dec.{leb, eqb}
 use lib.ListN.{getD}
 use Rattle.laws.proofs.Tests.{by-cases, both-true}
 use Rattle.records.specs.declared.Record.{Record}
-use Rattle.table.specs.Events.{message}
+use Rattle.table.specs.Cases as cases
 use Rattle.table.specs.Numbers.{blank, ownIs}
 use Rattle.table.specs.Step.{stepOf}
 use Rattle.table.specs.Table.{find, findFrom}
@@ -20,12 +20,12 @@ use Rattle.table.specs.declared.Entry.{Entry}
 use Rattle.table.specs.declared.Station.{Station}
 use Rattle.pair.specs.Theorem.{Empty, Past, Settled, Still, here, onward, Nine, Settles}
 use Rattle.pair.specs.World.{Side, A, B, Envelope, World, acts, Run, next}
-use Rattle.pair.proofs.Scripts.{does, numbered, after, played, may, did, toBoth, at-side}
+use Rattle.pair.proofs.Scripts.{does, after, played, may, did, toBoth, at-side}
 
 -- ---- nothing is under way, and no deadline is past the last time
 
 abbrev pub tick : ℕ → Record
-tick time = numbered 0 time (message 15 0 0 0 0 0 0)
+tick time = cases.tick time .event
 
 -- the last time that there is
 abbrev pub lastTime : ℕ

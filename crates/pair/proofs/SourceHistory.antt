@@ -2,14 +2,14 @@
 -- which is of the same handover; and a release of the handover that finds its record prepared has both its IDs, and moves it.
 use Prim.Native.Nat.{ℕ, _+_}
 use mathlib.Core.Path.{_≡_, refl, sym, ap, _∙_}
-use mathlib.Core.Bool.{Bool, true, false, _&&_, _||_, true≢false, false≢true, or-true}
+use mathlib.Core.Bool.{Bool, true, _&&_, _||_, true≢false, false≢true, or-true}
 use mathlib.Core.List.{List, [], _∷_, head-eq-of-cons-eq}
-use mathlib.Core.Logic.{_⊎_, inl, inr, ⊎-elim}
+use mathlib.Core.Logic.{inl, inr, ⊎-elim}
 use mathlib.Core.Option.{Option}
 use borrow.Author.Tests.{eqb-true, eq-eqb, not-false}
 use native.Mathlib.Omega.{arith}
 use lib.Dec.{eqb}
-use Rattle.laws.proofs.Tests.{by-cases, both-true}
+use Rattle.laws.proofs.Tests.{by-cases, both-true, either-true}
 use Rattle.records.specs.declared.Record.{Record}
 use Rattle.table.specs.declared.Answer.{Answer}
 use Rattle.table.specs.Events.{message}
@@ -24,10 +24,6 @@ use Rattle.pair.proofs.SourceFacts.{fixed-same, after, in-table, asked-
 use Rattle.pair.proofs.SourceQueues.{start-latest}
 
 -- ---- tests
-
-either-true : (b c : Bool) → (b || c) ≡ true → (b ≡ true) ⊎ (c ≡ true)
-either-true true c t = inl refl
-either-true false c t = inr t
 
 prepared-is : (o : Outgoing) → isPrepared o ≡ true → (n : ℕ) × (set : ℕ) × (o ≡ Prepared n set)
 prepared-is NotOut is = absurd (false≢true is)

@@ -1,7 +1,7 @@
 -- A stream is cut into events with no byte left out and none taken twice.
 use Prim.Native.Nat.{ℕ, zero, suc, _+_, _*_, _-_, _≤_, _<_}
 use mathlib.Core.Path.{_≡_, refl, sym, ap}
-use mathlib.Core.Bool.{Bool, true, false, cond, and-eq-true-iff}
+use mathlib.Core.Bool.{Bool, true, false, cond}
 use mathlib.Core.List.{List, [], _∷_, flatten, List·Memᴰ, List·Memᴰ·not-nil, List·Memᴰ·cases-cons}
 use mathlib.Core.Logic.{⊎-elim}
 use mathlib.Core.Option.{Option, none, some, Option·elim}
@@ -10,7 +10,7 @@ use native.Mathlib.Omega.{arith}
 use lib.Dec.{leb}
 use lib.ListN.{length, take, drop, length-take, length-drop, take-append-drop, drop-of-length-le}
 use lib.Seq.{drop-drop}
-use Rattle.laws.proofs.Tests.{split}
+use Rattle.laws.proofs.Tests.{by-cases, both-true}
 use Rattle.records.specs.Record.{recordOf, roomAt}
 use Rattle.records.specs.Stream.{takesBearers, bearerFirst, bearersIn, pieceAt, nextOf, eventsFrom, events}
 use Rattle.records.specs.declared.Record.{Record}
@@ -22,10 +22,9 @@ unfolding bearersIn
 bearers-within zero rest = omega arith
 bearers-within (suc most) rest =
     let further : 32 * bearersIn most (drop 32 rest) ≤ length rest - 32 = rw length-drop at (bearers-within most (drop 32 rest)) in
-    ⊎-elim
-    (λ t. rw t (omega (arith, leb-true 32 (length rest) (and-eq-true-iff _ _ .0 t .0))))
+    by-cases (bearerFirst rest)
+    (λ t. rw t (omega (arith, leb-true 32 (length rest) (both-true (leb 32 (length rest)) _ t .0))))
     (λ t. rw t (omega arith))
-    (split (bearerFirst rest))
 
 -- Where the next event may start: further on and within the stream; and there is no event only where the stream has ended.
 abbrev pub Onward : List ℕ → ℕ → Option ℕ → Type 0

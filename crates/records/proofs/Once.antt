@@ -6,8 +6,12 @@ use mathlib.Core.List.{List}
 use Rattle.records.specs.declared.Record.{Record}
 use Rattle.records.specs.declared.Read.{Read}
 use Rattle.records.specs.declared.stream.Piece.{Piece}
-use Rattle.records.specs.Record.{readAt, roomAt, writtenAt}
+use Rattle.records.specs.Record.{zeros, readAt, roomAt, writtenAt}
 use Rattle.records.specs.Stream.{pieceAt}
+
+-- There is one record of zeros.
+pub zeros-once : (a b : Record) → a ≡ zeros → b ≡ zeros → a ≡ b
+zeros-once a b p q = p ∙ sym q
 
 module _ (bytes : List ℕ) (at : ℕ) where
   -- Of the same bytes and place there is one reading, and one event.

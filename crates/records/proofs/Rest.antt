@@ -1,7 +1,7 @@
 -- Laws of what is left of a stream from a place on.
 use Prim.Native.Nat.{ℕ, zero, suc, _+_, _*_, _-_, _≤_, _<_}
 use mathlib.Core.Path.{_≡_, refl, sym, _∙_, ap}
-use mathlib.Core.Bool.{Bool, true, false, cond, and-eq-true-iff}
+use mathlib.Core.Bool.{Bool, true, false, cond}
 use mathlib.Core.List.{List}
 use mathlib.Core.Logic.{_⊎_, inl, inr}
 use borrow.Author.Tests.{leb-true, lt-leb}
@@ -10,7 +10,7 @@ use native.Mathlib.Nat.{add-zero}
 use lib.Dec.{leb}
 use lib.ListN.{length, take, drop, getD, length-drop}
 use lib.Seq.{drop-drop, getD-drop}
-use Rattle.laws.proofs.Tests.{same-leb}
+use Rattle.laws.proofs.Tests.{same-leb, both-true}
 use Rattle.records.specs.Record.{recordOf, roomAt, readAt}
 use Rattle.records.specs.declared.Record.{Record}
 use Rattle.records.specs.declared.Read.the-variants.{Whole, Nothing}
@@ -27,7 +27,7 @@ first-rest bytes at = rw (getD-drop, add-zero)
 
 -- Where a bearer stands there is room for a record.
 pub bearer-room : (bytes : List ℕ) (at : ℕ) → bearerFirst (drop at bytes) ≡ true → at + 32 ≤ length bytes
-bearer-room bytes at here = leb-true (at + 32) (length bytes) (sym (room-rest bytes at) ∙ and-eq-true-iff _ _ .0 here .0)
+bearer-room bytes at here = leb-true (at + 32) (length bytes) (sym (room-rest bytes at) ∙ both-true (leb 32 (length (drop at bytes))) _ here .0)
 
 -- Passing one bearer leaves one fewer to pass, from the next place on.
 pub pass : (bytes : List ℕ) (at left : ℕ) → 0 < left → bearerFirst (drop at bytes) ≡ true → at + 32 + 32 * bearersIn (left - 1) (drop (at + 32) bytes) ≡ at + 32 * bearersIn left (drop at bytes)

@@ -51,6 +51,27 @@ bytesOf r =
     ++ littleOf 2 (r .second) ++ r .reason ∷ r .byte11 ∷ littleOf 4 (r .number) ++ littleOf 8 (r .time)
     ++ r .erab ∷ r .qci ∷ r .priority ∷ r .flags ∷ littleOf 4 (r .bytes28)
 
+-- a record of zeros
+abbrev pub zeros : Record
+zeros =
+    record {
+      kind = 0;
+      neighbour = 0;
+      old = record { 0 = 0 };
+      new = record { 0 = 0 };
+      first = 0;
+      second = 0;
+      reason = 0;
+      byte11 = 0;
+      number = 0;
+      time = 0;
+      erab = 0;
+      qci = 0;
+      priority = 0;
+      flags = 0;
+      bytes28 = 0;
+    }
+
 -- whether a whole record stands at a place, or has room there
 abbrev pub roomAt : List ℕ → ℕ → Bool
 roomAt bytes at = leb (at + 32) (length bytes)

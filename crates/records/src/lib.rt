@@ -7,7 +7,7 @@ ghost use Prim.Native.Nat.{_+_, _*_, _≤_, _<_, _^_};
 ghost use mathlib.Core.List.{_++_};
 ghost use lib.ListN.{length, take};
 ghost use lib.Dec.{leb};
-ghost use Rattle.records.specs.Record.{fieldAt, littleOf, recordOf, bytesOf, readAt, roomAt, writtenAt};
+ghost use Rattle.records.specs.Record.{fieldAt, littleOf, recordOf, bytesOf, zeros, readAt, roomAt, writtenAt};
 
 // How many bytes a record has.
 pub const SIZE: usize = 32;
@@ -44,6 +44,29 @@ pub enum Read {
 }
 
 impl Record {
+    // A record of zeros.
+    pub fn zeros() -> Record
+        ensures { λ r. ⌜ r ≡ zeros ⌝ }
+    {
+        Record {
+            kind: 0,
+            neighbour: 0,
+            old: OldId(0),
+            new: NewId(0),
+            first: 0,
+            second: 0,
+            reason: 0,
+            byte11: 0,
+            number: 0,
+            time: 0,
+            erab: 0,
+            qci: 0,
+            priority: 0,
+            flags: 0,
+            bytes28: 0,
+        }
+    }
+
     // The record at a place.
     pub fn read(bytes: &[u8], at: usize) -> Read
         ensures { λ r. ⌜ r ≡ readAt (now (bytes .entry)) at ⌝ }

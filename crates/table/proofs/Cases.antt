@@ -24,7 +24,7 @@ use Rattle.table.specs.Table.{find, findFrom, dueFrom}
 use Rattle.table.proofs.Forms.{used-in-range}
 use Rattle.table.proofs.Issuing.{issue-free, issue-used}
 use Rattle.table.proofs.Rows.{same-at, row-step, start-step}
-use Rattle.table.specs.Cases.{Seen, Case, freshly, issuedLast, startOf, bytesIn, runs, Holds, start, cancel, cases, noCase}
+use Rattle.table.specs.Cases.{Seen, Case, freshly, preparing, stationWith, issuedLast, startOf, bytesIn, runs, Holds, start, cancel, cases, noCase}
 
 -- ---- a station that issued 4,095 last
 
@@ -53,29 +53,7 @@ cancel-small n h = in-bytes 10 0 n 0 (omega arith) (omega arith) h (omega arith)
 
 -- with a second record, that issued the number last
 abbrev twoFrom : ℕ → Station
-twoFrom k =
-    record {
-      entries = getD (issuedLast 0 .entries) 0 blank
-          ∷ record {
-            state = 1;
-            neighbour = 3;
-            old = record { 0 = k };
-            new = record { 0 = 0 };
-            requested = 32;
-            admitted = 0;
-            status = 0;
-            units = 0;
-            deadline = 50;
-          }
-          ∷ replicate 62 blank;
-      clock = 0;
-      last = k;
-      used = 0;
-      capacity = 100;
-      prep = 50;
-      overall = 2000;
-      guard = 3000;
-    }
+twoFrom k = stationWith (preparing 0 ∷ preparing k ∷ replicate 62 blank) k
 
 next-issued : (n : ℕ) → n < 4095 → issue (issuedLast n) ≡ suc n
 unfolding anyOf

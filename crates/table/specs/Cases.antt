@@ -6,6 +6,7 @@ use mathlib.Core.List.{List, [], _∷_, _++_}
 use lib.ListN.{length, replicate}
 use Rattle.records.specs.declared.Record.{Record}
 use Rattle.records.specs.Record.{bytesOf}
+use Rattle.table.specs.declared.Entry.{Entry}
 use Rattle.table.specs.declared.Station.{Station}
 use Rattle.table.specs.Events.{message, silence}
 use Rattle.table.specs.Numbers.{blank}
@@ -35,21 +36,26 @@ pub record Case : Type 0 where
 abbrev pub freshly : Station
 freshly = bornOf 100 50 2000 3000
 
--- such a station whose own 0 is preparing, and that issued another number last
-abbrev pub issuedLast : ℕ → Station
-issuedLast last =
+-- what a start towards neighbour 3 with bearer 5 leaves there, with an own ID
+abbrev pub preparing : ℕ → Entry
+preparing id =
     record {
-      entries = record {
-        state = 1;
-        neighbour = 3;
-        old = record { 0 = 0 };
-        new = record { 0 = 0 };
-        requested = 32;
-        admitted = 0;
-        status = 0;
-        units = 0;
-        deadline = 50;
-      } ∷ replicate 63 blank;
+      state = 1;
+      neighbour = 3;
+      old = record { 0 = id };
+      new = record { 0 = 0 };
+      requested = 32;
+      admitted = 0;
+      status = 0;
+      units = 0;
+      deadline = 50;
+    }
+
+-- such a station with these records, that issued a number last
+abbrev pub stationWith : List Entry → ℕ → Station
+stationWith entries last =
+    record {
+      entries = entries;
       clock = 0;
       last = last;
       used = 0;
@@ -58,6 +64,10 @@ issuedLast last =
       overall = 2000;
       guard = 3000;
     }
+
+-- its own 0 is preparing, and it issued another number last
+abbrev pub issuedLast : ℕ → Station
+issuedLast last = stationWith (preparing 0 ∷ replicate 63 blank) last
 
 abbrev pub startOf : Case → Station
 startOf c = cond (c .wrapped) (issuedLast 4095) freshly
@@ -93,6 +103,27 @@ pub record Holds (c : Case) : Type 0 where
 
 -- ---- how cases are written
 
+-- a record with a number and a time
+abbrev pub numbered : ℕ → ℕ → Record → Record
+numbered number time m =
+    record {
+      kind = m .kind;
+      neighbour = m .neighbour;
+      old = m .old;
+      new = m .new;
+      first = m .first;
+      second = m .second;
+      reason = m .reason;
+      byte11 = m .byte11;
+      number = number;
+      time = time;
+      erab = m .erab;
+      qci = m .qci;
+      priority = m .priority;
+      flags = m .flags;
+      bytes28 = m .bytes28;
+    }
+
 -- a bearer without GBR information: its ID, QCI, priority and units
 abbrev pub bearer : ℕ → ℕ → ℕ → ℕ → Record
 bearer id qci priority units =
@@ -114,40 +145,16 @@ bearer id qci priority units =
       bytes28 = 0;
     }
 
--- an event of a kind with neighbour, Old ID, number and time, and its bearers
-abbrev pub eventWith : ℕ → ℕ → ℕ → ℕ → ℕ → List Record → Event
-eventWith kind neighbour old number time bearers =
-    record {
-      event = record {
-        kind = kind;
-        neighbour = neighbour;
-        old = record { 0 = old };
-        new = record { 0 = 0 };
-        first = 0;
-        second = 0;
-        reason = 0;
-        byte11 = 0;
-        number = number;
-        time = time;
-        erab = 0;
-        qci = 0;
-        priority = 0;
-        flags = 0;
-        bytes28 = 0;
-      };
-      bearers = bearers;
-    }
-
--- a request from neighbour 3 with Old ID 7, and a tick
+-- a request from neighbour 3 with Old ID 7
 abbrev pub request : List Record → Event
-request bearers = eventWith 1 3 7 (length bearers) 0 bearers
+request bearers = record { event = numbered (length bearers) 0 (message 1 3 7 0 0 0 0); bearers = bearers }
 
-abbrev pub tick : ℕ → Event
-tick time = eventWith 15 0 0 0 time []
-
--- an event without bearers; a start towards neighbour 3 with bearer 5, and a cancel
+-- an event without bearers: a tick, a start towards neighbour 3 with bearer 5, and a cancel
 abbrev pub alone : Record → Event
 alone e = record { event = e; bearers = [] }
+
+abbrev pub tick : ℕ → Event
+tick time = alone (numbered 0 time (message 15 0 0 0 0 0 0))
 
 abbrev pub start : Event
 start = alone (message 9 3 0 0 32 0 0)

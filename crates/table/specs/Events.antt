@@ -1,14 +1,15 @@
 -- Which state takes which event.
-use Prim.Native.Nat.{ℕ, zero, suc, _+_}
-use mathlib.Core.Bool.{Bool, true, false, cond, not, _&&_, _||_}
+use Prim.Native.Nat.{ℕ}
+use mathlib.Core.Bool.{Bool, cond, not, _&&_, _||_}
 use mathlib.Core.List.{List, [], _∷_}
-use lib.Dec.{leb, ltb, eqb}
+use lib.Dec.{leb, eqb}
 use lib.ListN.{getD}
+use Rattle.records.specs.Record.{zeros}
 use Rattle.records.specs.declared.Record.{Record}
 use Rattle.bearers.specs.Sets.{union, disjoint, within}
 use Rattle.table.specs.declared.Decision.{Decision}
 use Rattle.table.specs.declared.Entry.{Entry}
-use Rattle.table.specs.Numbers.{isOutgoing, blank}
+use Rattle.table.specs.Numbers.{blank}
 
 -- ---- the record an event is about
 
@@ -105,7 +106,7 @@ message kind neighbour old new first second reason =
     }
 
 abbrev pub silence : Record
-silence = message 0 0 0 0 0 0 0
+silence = zeros
 
 -- what is decided of a record: reply, ending, message, and the record's next value
 abbrev pub decision : ℕ → ℕ → Record → Entry → Decision

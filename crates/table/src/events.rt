@@ -117,7 +117,7 @@ pub(crate) fn message(
 pub(crate) fn silence() -> Record
     ensures { λ r. ⌜ r ≡ silenceOf ⌝ }
 {
-    message(0, 0, OldId(0), NewId(0), 0, 0, 0)
+    Record::zeros()
 }
 
 // The lists of an acknowledge fit the request: disjoint, together the requested set, and something is admitted.

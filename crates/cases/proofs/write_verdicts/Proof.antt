@@ -1,7 +1,6 @@
 -- Each turn reads one place of the buffer; the places left fall.
-use Prim.Native.Nat.{_-_, _≤_}
+use Prim.Native.Nat.{_-_}
 use native.Mathlib.Omega.{arith}
-use lib.ListN.{length}
 use borrow.Author.Needs.{needs}
 use Rattle.cases.proofs.write_verdicts.Statement.{statement}
 use Rattle.cases.proofs.write_verdicts.Tie as tie

@@ -19,8 +19,8 @@ use Rattle.lines.proofs.answered.Tie as tie
 enum-told : tie.Need-enum-told
 enum-told c = search needs
 
-nothing-requires : tie.Need-nothing-requires
-nothing-requires c κs = search needs
+zeros-requires : tie.Need-zeros-requires
+zeros-requires c κs = search needs
 
 step-requires : tie.Need-step-requires
 step-requires c κs = search needs
@@ -28,8 +28,8 @@ step-requires c κs = search needs
 enum-told-2 : tie.Need-enum-told-2
 enum-told-2 c = search needs
 
-nothing-requires-2 : tie.Need-nothing-requires-2
-nothing-requires-2 c κs = search needs
+zeros-requires-2 : tie.Need-zeros-requires-2
+zeros-requires-2 c κs = search needs
 
 step-requires-2 : tie.Need-step-requires-2
 step-requires-2 c κs = search needs
@@ -88,13 +88,13 @@ returns : tie.Need-returns
 returns c =
     let start = c .before .before .before .before .before .before .args in
     let nothing = c .before .before .enum-told .given .1 in
-    (c .step .ensures ∙ ap (λ (e : Record). stepOf (start .station) e [] 0) (c .before .nothing .ensures) ∙ sym (ap (answerTo (length (start .verdicts .now)) (start .station) (start .bytes .now)) nothing), sym (ap (λ (p : Piece). verdictsTo (start .station) (start .bytes .now) p (start .verdicts .now)) nothing))
+    (c .step .ensures ∙ ap (λ (e : Record). stepOf (start .station) e [] 0) (c .before .zeros .ensures) ∙ sym (ap (answerTo (length (start .verdicts .now)) (start .station) (start .bytes .now)) nothing), sym (ap (λ (p : Piece). verdictsTo (start .station) (start .bytes .now) p (start .verdicts .now)) nothing))
 
 returns-2 : tie.Need-returns-2
 returns-2 c =
     let start = c .before .before .before .before .before .before .args in
     let short = c .before .before .enum-told2 .given .1 in
-    (c .step2 .ensures ∙ ap (λ (e : Record). stepOf (start .station) e [] 0) (c .before .nothing2 .ensures) ∙ sym (ap (answerTo (length (start .verdicts .now)) (start .station) (start .bytes .now)) short), sym (ap (λ (p : Piece). verdictsTo (start .station) (start .bytes .now) p (start .verdicts .now)) short))
+    (c .step2 .ensures ∙ ap (λ (e : Record). stepOf (start .station) e [] 0) (c .before .zeros2 .ensures) ∙ sym (ap (answerTo (length (start .verdicts .now)) (start .station) (start .bytes .now)) short), sym (ap (λ (p : Piece). verdictsTo (start .station) (start .bytes .now) p (start .verdicts .now)) short))
 
 returns-3 : tie.Need-returns-3
 returns-3 c =
@@ -122,10 +122,10 @@ answered-spec =
     tie.close
     (tie.spec
     enum-told
-    nothing-requires
+    zeros-requires
     step-requires
     enum-told-2
-    nothing-requires-2
+    zeros-requires-2
     step-requires-2
     enum-known-piece
     step-requires-3
