@@ -1,2 +1,4 @@
+pub mod Fields
 pub mod Leading
+pub mod Members
 pub mod Typing

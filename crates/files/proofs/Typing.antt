@@ -1,18 +1,17 @@
 -- Words and numbers: what a line is after their bytes, and once they end.
-use Prim.Native.Nat.{ℕ, zero, suc, _+_, _*_, _-_, _/_, _%_, _^_, _≤_, _<_}
+use Prim.Native.Nat.{ℕ, zero, suc, _+_, _/_, _%_, _^_, _≤_, _<_}
 use mathlib.Core.Path.{_≡_, refl, sym, ap, _∙_}
-use mathlib.Core.Bool.{Bool, true, false, cond, not, _&&_, _||_}
+use mathlib.Core.Bool.{Bool, true, false, not, _&&_}
 use mathlib.Core.List.{List, [], _∷_, _++_, append-nil, append-assoc}
 use native.Mathlib.Omega.{arith}
-use borrow.Author.Tests.{le-leb, lt-leb, eq-eqb, ne-eqb, leb-true, leb-false, eqb-true, eqb-false, not-true}
+use borrow.Author.Tests.{le-leb, eq-eqb, ne-eqb, leb-false, eqb-true, eqb-false, not-true}
 use lib.Dec.{leb, eqb}
 use lib.ListN.{getD, set}
 use Rattle.laws.proofs.Tests.{both-true, by-cases}
 use Rattle.lines.specs.Text.{sizeIn, size, digits}
 use Rattle.text.specs.declared.compose.Word.{Word}
-use Rattle.text.specs.declared.compose.Draft.{Draft}
 use Rattle.text.specs.Words.{isSame, placeIn, placeOf, trimmed, wordAt}
-use Rattle.text.specs.Composed.{isGap, takesDigit, grown, longer, emptyWord, pushed, withWord, blankValues, limits, fields, added, nextField, put, begun, chosen, Made, made, stage, understood, settle, step}
+use Rattle.text.specs.Composed.{isGap, takesDigit, longer, emptyWord, pushed, blankValues, limits, fields, added, nextField, put, begun, chosen, Made, stage, understood, settle, step}
 use Rattle.text.proofs.Machine.{on-true, a-kind, a-field, settle-number, settle-word, typed-on, step-gap, step-typed}
 use Rattle.files.proofs.Leading.{at, resting, Leads, leads-on, leads-step, Reads}
 
@@ -51,12 +50,13 @@ adds-word text n o still word before m r =
 abbrev isPlain : ℕ → Bool
 isPlain b = not (eqb b 10) && not (eqb b 35) && not (isGap b)
 
+-- and a text of such bytes
 unfoldable allPlain : List ℕ → Bool
 allPlain [] = true
 allPlain (b ∷ bs) = isPlain b && allPlain bs
 
 -- a word with some bytes more
-unfoldable typedAll : Word → List ℕ → Word
+unfoldable pub typedAll : Word → List ℕ → Word
 typedAll w [] = w
 typedAll w (b ∷ bs) = typedAll (pushed w b) bs
 
@@ -76,13 +76,14 @@ below (suc n) test t k h =
     by-cases (eqb k n) (λ e. rw (eqb-true k n e) (both .0)) (λ e. below n test (both .1) k (omega (arith, eqb-false k n e)))
 
 -- what is typed of a word of the table
-abbrev wordOf : ℕ → Word
+abbrev pub wordOf : ℕ → Word
 wordOf k = typedAll emptyWord (wordAt k)
 
 -- whether a word of the table reads back to its place
 abbrev isRead : ℕ → Bool
 isRead k = allPlain (wordAt k) && not (eqb (wordOf k .size) 0) && not (wordOf k .number) && eqb k (placeOf (wordOf k .text))
 
+-- Every one does: the table is computed.
 all-read : allBelow 37 isRead ≡ true
 unfolding allBelow allPlain typedAll wordAt trimmed placeIn isSame
 all-read = refl
@@ -105,10 +106,11 @@ takes-last n small =
     let over = leb-false (n / 10) 1844674407370955160 t in
     rw (t, eq-eqb (n / 10) 1844674407370955161 (omega arith), le-leb (48 + n % 10) 53 (omega arith))))
 
-pub longer-some : (n : ℕ) → 1 ≤ longer n
+-- A word with a byte more is not empty.
+longer-some : (n : ℕ) → 1 ≤ longer n
 longer-some n = by-cases (leb n 16) (λ t. rw t (omega arith)) (λ t. rw t (omega arith))
 
--- So it goes to the number.
+-- A digit goes to the number whose tenth was typed.
 one-typed : (w : Word) (n : ℕ) → n < 2 ^ 64 → w .number ≡ true → w .value ≡ n / 10 → Spells (pushed w (48 + n % 10)) n
 one-typed w n small number value =
     let takes : takesDigit (w .value) (48 + n % 10) ≡ true = rw value (takes-last n small) in
@@ -118,12 +120,13 @@ one-typed w n small number value =
       some = longer-some (w .size);
     }
 
+-- The last byte is typed last.
 typed-last : (w : Word) (ds : List ℕ) (d : ℕ) → typedAll w (ds ++ (d ∷ [])) ≡ pushed (typedAll w ds) d
 unfolding typedAll
 typed-last w [] d = refl
 typed-last w (x ∷ ds) d = typed-last (pushed w x) ds d
 
--- A number is typed digit by digit.
+-- A number of one digit, and a digit after its tenth.
 module _ (n : ℕ) where
   first-digit : n < 10 → Spells (typedAll emptyWord (digits 1 n)) n
   unfolding digits typedAll
@@ -133,6 +136,7 @@ module _ (n : ℕ) where
   unfolding digits
   next-digit k small s = rw (typed-last emptyWord (digits k (n / 10)) (48 + n % 10)) (one-typed (typedAll emptyWord (digits k (n / 10))) n small (s .number) (s .value))
 
+-- So a number is typed digit by digit.
 spells : (most n : ℕ) → n < 10 ^ suc most → n < 2 ^ 64 → Spells (typedAll emptyWord (digits (sizeIn most n) n)) n
 unfolding sizeIn
 spells zero n h small = first-digit n (omega arith)
@@ -141,16 +145,18 @@ spells (suc most) n h small =
     (λ t. rw t (next-digit n (sizeIn most (n / 10)) small (spells most (n / 10) (omega arith) (omega arith))))
     (λ t. rw t (first-digit n (leb-false 10 n t)))
 
--- Each of its bytes is a digit, so none ends it.
+-- A digit ends neither a word nor a line.
 digit-plain : (n : ℕ) → isPlain (48 + n % 10) ≡ true
 digit-plain n =
     rw (ne-eqb (48 + n % 10) 10 (λ e. omega arith), ne-eqb (48 + n % 10) 35 (λ e. omega arith), ne-eqb (48 + n % 10) 32 (λ e. omega arith), ne-eqb (48 + n % 10) 9 (λ e. omega arith), ne-eqb (48 + n % 10) 13 (λ e. omega arith))
 
+-- One such byte more.
 plain-last : (ds : List ℕ) (d : ℕ) → allPlain ds ≡ true → isPlain d ≡ true → allPlain (ds ++ (d ∷ [])) ≡ true
 unfolding allPlain
 plain-last [] d t u = rw u
 plain-last (x ∷ ds) d t u = let both = both-true (isPlain x) (allPlain ds) t in rw (both .0) (plain-last ds d (both .1) u)
 
+-- No digit of a number ends it.
 digits-plain : (k n : ℕ) → allPlain (digits k n) ≡ true
 unfolding digits allPlain
 digits-plain zero n = refl
@@ -158,12 +164,13 @@ digits-plain (suc k) n = plain-last (digits k (n / 10)) (48 + n % 10) (digits-pl
 
 -- ---- a line that reads them
 
+-- a line, by the word that is being read
 module _ (values : List ℕ) (field mode staged : ℕ) (out : List ℕ) where
   abbrev line : Word → Made
   line w = at values field mode staged w out
 
   module _ (words : mode ≤ 1) where
-    -- Such a byte goes to the word.
+    -- A byte that ends nothing goes to the word, where words are read and no bytes.
     types : (w : Word) (b : ℕ) → isPlain b ≡ true → line (pushed w b) ≡ step (line w) b
     types w b t =
         let one = both-true (not (eqb b 10) && not (eqb b 35)) (not (isGap b)) t in
@@ -175,6 +182,7 @@ module _ (values : List ℕ) (field mode staged : ℕ) (out : List ℕ) where
         (not-true (isGap b) (one .1))
         (typed-on (line w) b (line (pushed w b) .draft) refl (rw (ne-eqb mode 2 (λ e. omega arith))))
 
+    -- So does a text of such bytes.
     types-all : (text : List ℕ) (w : Word) → allPlain text ≡ true → Leads text (line w) (line (typedAll w text))
     unfolding allPlain typedAll
     types-all [] w t = λ rest. refl
@@ -189,7 +197,7 @@ module _ (values : List ℕ) (field mode staged : ℕ) (out : List ℕ) where
     types-word text n t e = record { end = line (typedAll emptyWord text); leads = types-all text emptyWord t; settled = sym e; reading = omega arith }
 
     -- A word of the table is understood.
-    word-read : (k : ℕ) → k ≤ 36 → (n : Made) → n ≡ understood (line (wordOf k)) k → Reads (wordAt k) (line emptyWord) n
+    pub word-read : (k : ℕ) → k ≤ 36 → (n : Made) → n ≡ understood (line (wordOf k)) k → Reads (wordAt k) (line emptyWord) n
     word-read k h n e =
         let w = wordOf k in
         let all = both-true (allPlain (wordAt k) && not (eqb (w .size) 0) && not (w .number)) _ (below 37 isRead all-read k (omega arith)) in
