@@ -1,1 +1,2 @@
 pub mod Leading
+pub mod Raw
