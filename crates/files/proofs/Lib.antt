@@ -1,3 +1,4 @@
 pub mod Filling
 pub mod Leading
+pub mod Lines
 pub mod Raw
