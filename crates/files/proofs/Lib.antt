@@ -1,3 +1,4 @@
+pub mod Back
 pub mod Filling
 pub mod Leading
 pub mod Lines

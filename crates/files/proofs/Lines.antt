@@ -1,7 +1,7 @@
 -- A line that ends gives the records that were read in it.
 use Prim.Native.Nat.{ℕ, _+_, _*_, _≤_}
-use mathlib.Core.Path.{_≡_, refl, sym, _∙_, ap}
-use mathlib.Core.Bool.{Bool, true, false, cond, _&&_, false≢true}
+use mathlib.Core.Path.{_≡_, refl, sym, ap}
+use mathlib.Core.Bool.{Bool, true, false, _&&_, false≢true}
 use mathlib.Core.List.{List, [], _∷_, _++_}
 use native.Mathlib.Omega.{arith}
 use borrow.Author.Tests.{le-leb, eqb-true}
@@ -12,12 +12,12 @@ use Rattle.records.specs.Record.{bytesOf, writtenAt, InRange}
 use Rattle.records.specs.declared.Record.{Record}
 use Rattle.text.specs.declared.compose.Word.{Word}
 use Rattle.text.specs.declared.compose.Draft.{Draft}
-use Rattle.text.specs.Composed.{Made, made, newDraft, emptyWord, lacksCount, finished, recordFrom, stage, settle, counted, close, step}
+use Rattle.text.specs.Composed.{Made, made, newDraft, emptyWord, lacksCount, finished, stage, settle, counted, close, step}
 use Rattle.text.specs.Shown.{valuesOf}
 use Rattle.text.proofs.Machine.{on-false, lacks, close-on, step-end}
-use Rattle.files.specs.Files.{lineBytes, composedFrom}
+use Rattle.files.specs.Files.{composedFrom}
 use Rattle.files.proofs.Leading.{at, resting}
-use Rattle.files.proofs.Filling.{Holds, holds-none, holds-at, holds-record, fields-back}
+use Rattle.files.proofs.Filling.{Holds, holds-at, holds-record, fields-back}
 
 -- the four bytes of a request's count, together
 abbrev pub countOf : List ℕ → ℕ
@@ -60,17 +60,18 @@ not-lacking d out line h some =
     let long : 64 ≤ d .staged = lacks d out t .1 in
     let zero = four (eqb (d .mode) 1 && leb 64 (d .staged) && eqb (getD out 0 0) 1) (eqb (getD out 12 0) 0) (eqb (getD out 13 0) 0) (eqb (getD out 14 0) 0) (eqb (getD out 15 0) 0) (both-true (leb 64 (length out)) _ t .1) in
     absurd
-    (omega
-    (arith,
-    some long,
-    eqb-true (getD out 12 0) 0 (zero .0),
-    eqb-true (getD out 13 0) 0 (zero .1),
-    eqb-true (getD out 14 0) 0 (zero .2),
-    eqb-true (getD out 15 0) 0 (zero .3),
-    holds-at h 12 (omega arith),
-    holds-at h 13 (omega arith),
-    holds-at h 14 (omega arith),
-    holds-at h 15 (omega arith))))
+    (omega (
+      arith,
+      some long,
+      eqb-true (getD out 12 0) 0 (zero .0),
+      eqb-true (getD out 13 0) 0 (zero .1),
+      eqb-true (getD out 14 0) 0 (zero .2),
+      eqb-true (getD out 15 0) 0 (zero .3),
+      holds-at h 12 (omega arith),
+      holds-at h 13 (omega arith),
+      holds-at h 14 (omega arith),
+      holds-at h 15 (omega arith),
+    )))
     (λ t. t)
 
 -- A record by its words is written behind those before it.

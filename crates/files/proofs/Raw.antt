@@ -1,7 +1,7 @@
 -- Hexadecimal digits: the bytes that they were written for are read back.
 use Prim.Native.Nat.{ℕ, suc, _+_, _/_, _%_, _≤_, _<_}
 use mathlib.Core.Path.{_≡_, refl, sym, _∙_, ap}
-use mathlib.Core.Bool.{true, false}
+use mathlib.Core.Bool.{false}
 use mathlib.Core.List.{List, [], _∷_, _++_}
 use native.Mathlib.Nat.{zero-add}
 use native.Mathlib.Numerals.{add-one}
@@ -12,7 +12,6 @@ use lib.ListN.{length, set, length-set}
 use lib.Seq.{sets}
 use Rattle.laws.proofs.Tests.{by-cases}
 use Rattle.records.specs.Record.{AreBytes}
-use Rattle.text.specs.declared.compose.Word.{Word}
 use Rattle.text.specs.Composed.{Made, emptyWord, pushed, isGap, nibble, hexValue, hex, stage, rawBegun, understood, settle, typed, step}
 use Rattle.text.specs.Shown.{hexDigit, bytesText}
 use Rattle.text.specs.Words.{wordAt, trimmed, isSame, placeIn}
@@ -35,6 +34,7 @@ digit-back n h =
 digit-past : (n : ℕ) → 48 ≤ hexDigit n
 digit-past n = by-cases (leb n 9) (λ t. rw t (omega arith)) (λ t. rw t (omega arith))
 
+-- No such byte is a gap.
 no-gap : (b : ℕ) → 48 ≤ b → isGap b ≡ false
 no-gap b h = rw (ne-eqb b 32 (λ e. omega arith), ne-eqb b 9 (λ e. omega arith), ne-eqb b 13 (λ e. omega arith))
 
@@ -43,6 +43,10 @@ pair-back : (b : ℕ) → b < 256 → hexValue (pushed (pushed emptyWord (hexDig
 unfolding hexValue
 pair-back b h =
     rw (digit-back (b / 16) (omega arith), digit-back (b % 16) (omega arith), le-leb (b / 16) 15 (omega arith), le-leb (b % 16) 15 (omega arith)) (omega arith)
+
+-- One byte of the text, by what it makes of the line.
+pub leads-to : (m n : Made) (b : ℕ) → n ≡ step m b → n .draft .ended ≡ false → Leads (b ∷ []) m n
+leads-to m n b e t = rw e (leads-step m b (ap (λ (x : Made). x .draft .ended) (sym e) ∙ t))
 
 -- One byte is read behind those that stand in the buffer.
 byte-read : (b : ℕ) → b < 256 → (v : List ℕ) (f s : ℕ) (out : List ℕ) → s < length out
@@ -64,9 +68,7 @@ byte-read b h v f s out room =
     let second : resting v f 2 (s + 1) (set out s b) ≡ step half low =
     step-typed half low _ (λ e. omega arith) (omega arith) (λ e. omega arith) (no-gap low past′) (typed-pair half low (full .draft) _ refl refl stored)
     in
-    let one : Leads (high ∷ []) empty half = rw first (leads-step empty high (rw (sym first))) in
-    let two : Leads (low ∷ []) half (resting v f 2 (s + 1) (set out s b)) = rw second (leads-step half low (rw (sym second))) in
-    leads-on (high ∷ []) (low ∷ []) empty half (resting v f 2 (s + 1) (set out s b)) one two
+    leads-on (high ∷ []) (low ∷ []) empty half _ (leads-to empty half high first refl) (leads-to half _ low second refl)
 
 -- So are all bytes.
 bytes-read : (bytes : List ℕ) → AreBytes bytes → (v : List ℕ) (f s : ℕ) (out : List ℕ) → s + length bytes ≤ length out
