@@ -115,11 +115,11 @@ unfolding Within
 in-range r range = (omega arith, (omega arith, (omega arith, (omega arith, (omega arith, (omega arith, (omega arith, (omega arith, (omega arith, (omega arith, (omega arith, (omega arith, (omega arith, (omega arith, tt))))))))))))))
 
 -- The words of a record make its fields, once what was filled before is written.
-pub record-read : (r : Record) → InRange r → 1 ≤ r .kind → r .kind ≤ 17
+pub record-read : (r : Record) → InRange r → r .kind ≤ 17
     → (values : List ℕ) (field mode staged after : ℕ) (out then : List ℕ) → mode ≤ 1
     → ((w : Word) → stage (at values field mode staged w out) ≡ at values field mode after w then)
     → (g : ℕ) × Reads (wordsText r) (resting values field mode staged out) (resting (valuesOf r) g 1 after then)
-record-read r range some known values field mode staged after out then words stages =
+record-read r range known values field mode staged after out then words stages =
     let kind = kind-read values field mode staged out words (r .kind) after then known stages in
     let rest = all-fields (r .kind) after then (drop 1 (valuesOf r)) (r .kind ∷ []) 1 (getD fields (r .kind) 0) refl (omega arith) refl (in-range r range) in
     (rest .0, rest .1 (wordAt (r .kind)) (resting values field mode staged out) kind)

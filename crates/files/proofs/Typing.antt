@@ -1,6 +1,6 @@
 -- Words and numbers: what a line is after their bytes, and once they end.
 use Prim.Native.Nat.{ℕ, zero, suc, _+_, _/_, _%_, _^_, _≤_, _<_}
-use mathlib.Core.Path.{_≡_, refl, sym, ap, _∙_}
+use mathlib.Core.Path.{_≡_, refl, sym, _∙_}
 use mathlib.Core.Bool.{Bool, true, false, not, _&&_}
 use mathlib.Core.List.{List, [], _∷_, _++_, append-nil, append-assoc}
 use native.Mathlib.Omega.{arith}
@@ -13,13 +13,9 @@ use Rattle.text.specs.declared.compose.Word.{Word}
 use Rattle.text.specs.Words.{isSame, placeIn, placeOf, trimmed, wordAt}
 use Rattle.text.specs.Composed.{isGap, takesDigit, longer, emptyWord, pushed, blankValues, limits, fields, added, nextField, put, begun, chosen, Made, stage, understood, settle, step}
 use Rattle.text.proofs.Machine.{on-true, a-kind, a-field, settle-number, settle-word, typed-on, step-gap, step-typed}
-use Rattle.files.proofs.Leading.{at, resting, Leads, leads-on, leads-step, Reads}
+use Rattle.files.proofs.Leading.{at, resting, Leads, leads-on, leads-to, no-gap, Reads}
 
 -- ---- one text after another
-
--- One byte whose step is known.
-leads-to : (m n : Made) (b : ℕ) → n ≡ step m b → n .draft .ended ≡ false → Leads (b ∷ []) m n
-leads-to m n b e still rest = leads-step m b (ap (λ (o : Made). o .draft .ended) (sym e) ∙ still) rest ∙ rw e
 
 -- a text that goes on from where the last word of another has ended
 abbrev pub Adds : List ℕ → Made → Made → Type 0
@@ -148,7 +144,7 @@ spells (suc most) n h small =
 -- A digit ends neither a word nor a line.
 digit-plain : (n : ℕ) → isPlain (48 + n % 10) ≡ true
 digit-plain n =
-    rw (ne-eqb (48 + n % 10) 10 (λ e. omega arith), ne-eqb (48 + n % 10) 35 (λ e. omega arith), ne-eqb (48 + n % 10) 32 (λ e. omega arith), ne-eqb (48 + n % 10) 9 (λ e. omega arith), ne-eqb (48 + n % 10) 13 (λ e. omega arith))
+    rw (ne-eqb (48 + n % 10) 10 (λ e. omega arith), ne-eqb (48 + n % 10) 35 (λ e. omega arith), no-gap (48 + n % 10) (omega arith))
 
 -- One such byte more.
 plain-last : (ds : List ℕ) (d : ℕ) → allPlain ds ≡ true → isPlain d ≡ true → allPlain (ds ++ (d ∷ [])) ≡ true
