@@ -1,0 +1,41 @@
+-- Whole files: what records are shown as, and what records a text makes.
+use Prim.Native.Nat.{ℕ, zero, suc, _/_}
+use mathlib.Core.Bool.{cond}
+use mathlib.Core.List.{List, [], _∷_, _++_}
+use lib.Dec.{leb}
+use lib.ListN.{length, take, drop}
+use Rattle.records.specs.Record.{recordOf}
+use Rattle.text.specs.declared.show.Sheet.{Sheet}
+use Rattle.text.specs.Shown.{sheetAfter, newSheet}
+use Rattle.files.specs.Anew.{eventText, closingText}
+use Rattle.text.specs.Composed.{Made, made, step, newDraft}
+
+-- so many records one after the other, then what is left
+unfoldable pub shownFrom : ℕ → List ℕ → Sheet → List ℕ
+shownFrom zero bytes s = closingText bytes s
+shownFrom (suc n) bytes s =
+    let one = take 32 bytes in
+    eventText s one ++ shownFrom n (drop 32 bytes) (sheetAfter s (recordOf one))
+
+-- what a file of records is shown as
+abbrev pub shownFile : List ℕ → List ℕ
+shownFile bytes = shownFrom (length bytes / 32) bytes newSheet
+
+-- the records of a line that has ended; none where a word was not understood
+abbrev pub lineBytes : Made → List ℕ
+lineBytes m = cond (leb (m .draft .mode) 3) (take (m .draft .staged) (m .out)) []
+
+-- the next line is read into the same buffer
+abbrev pub nextLine : Made → Made
+nextLine m = made newDraft (m .out)
+
+-- the records that a text makes from a byte on: its end ends the last line too
+unfoldable pub composedFrom : List ℕ → Made → List ℕ
+composedFrom [] m = lineBytes (step m 10)
+composedFrom (b ∷ bs) m =
+    let next = step m b in
+    cond (next .draft .ended) (lineBytes next ++ composedFrom bs (nextLine next)) (composedFrom bs next)
+
+-- the records that a text makes, in a buffer
+abbrev pub composedIn : List ℕ → List ℕ → List ℕ
+composedIn out text = composedFrom text (made newDraft out)

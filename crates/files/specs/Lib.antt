@@ -1,0 +1,2 @@
+pub mod Anew
+pub mod Files
