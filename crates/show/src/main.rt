@@ -83,7 +83,7 @@ fn turn(s: Stage, input: &mut [u8], output: &mut [u8]) -> Stage {
 
 fn main() {
     let mut input = io::large_buffer();
-    let mut output = [0u8; 4980];
+    let mut output = [0u8; 4959];
     let sheet = Sheet::new();
     let mut s = Stage {
         sheet,

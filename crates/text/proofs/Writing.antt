@@ -1,12 +1,12 @@
 -- Texts written one after the other.
 use Prim.Native.Nat.{ℕ, suc, _+_, _*_, _-_, _/_, _%_, _≤_, _<_}
 use mathlib.Core.Path.{_≡_, refl, sym, _∙_, ap}
-use mathlib.Core.Bool.{true}
-use mathlib.Core.List.{List, [], _∷_, _++_, append-nil}
+use mathlib.Core.Bool.{true, false}
+use mathlib.Core.List.{List, [], _∷_, _++_}
 use native.Mathlib.Nat.{add-assoc}
 use native.Mathlib.Numerals.{add-one}
 use native.Mathlib.Omega.{arith}
-use borrow.Author.Tests.{le-leb, lt-leb, eq-eqb, ne-eqb}
+use borrow.Author.Tests.{eq-eqb, ne-eqb}
 use lib.ListN.{length, length-append, set, drop, getD, take, drop-of-length-le}
 use lib.Seq.{sets, drop-cons}
 use Rattle.lines.specs.Text.{size, digits}
@@ -17,7 +17,7 @@ use Rattle.text.specs.declared.show.Sheet.{Sheet}
 use Rattle.text.specs.declared.show.Shown.{Shown}
 use Rattle.records.specs.declared.Record.{Record}
 use Rattle.records.specs.Record.{recordOf}
-use Rattle.text.specs.Shown.{numberText, spacedWord, idText, idsText, kindWord, kindText, fieldWord, valueText, fieldText, fieldsText, hexDigit, bytesText, rawText, owedAfter, eventText, isShown, shownOf, shownText}
+use Rattle.text.specs.Shown.{numberText, spacedWord, idText, idsText, hasWord, fieldWord, valueText, fieldText, fieldsText, wordsText, hexDigit, bytesText, rawText, recordText, owedAfter, gapText, eventText, isShown, shownOf, shownText}
 
 -- A text that is written, and what is written after it.
 pub onward : (out left : List ℕ) (at end : ℕ) (text rest : List ℕ) → end ≡ at + length text → left ≡ sets out at text
@@ -64,17 +64,6 @@ pub fields-done : (kind f : ℕ) (values : List ℕ) → length values ≤ f →
 unfolding fieldsText
 fields-done kind f values h = rw (drop-of-length-le values {i = f} h)
 
--- A kind that has a word, and one that has none.
-module _ (kind w at next : ℕ) (out left : List ℕ) (e : w ≡ kindWord kind) (n : next ≡ at + length (wordAt w)) (l : left ≡ sets out at (wordAt w)) (b : next ≤ at + 16) where
-  pub kind-known : 1 ≤ w → (next ≡ at + length (kindText kind)) × (left ≡ sets out at (kindText kind)) × (next ≤ at + 37)
-  kind-known h = rw (sym e, le-leb 1 w h, append-nil (wordAt w)) (n, l, omega arith)
-
-  pub kind-none : (end : ℕ) (last : List ℕ) → w < 1 → end ≡ next + length (numberText kind) → last ≡ sets left next (numberText kind) → end ≤ next + 21
-      → (end ≡ at + length (kindText kind)) × (last ≡ sets out at (kindText kind)) × (end ≤ at + 37)
-  kind-none end last h f g c =
-      let both = joined out left last at next end (wordAt w) (numberText kind) n l f g in
-      rw (sym e, lt-leb 1 w h) (both .0, both .1, omega arith)
-
 -- A field that is zero, and one that is not.
 module _ (kind f v at : ℕ) (out : List ℕ) where
   pub field-none : v ≡ 0 → (at ≡ at + length (fieldText kind f v)) × (out ≡ sets out at (fieldText kind f v)) × (at ≤ at + 353)
@@ -106,30 +95,36 @@ unfolding bytesText
 length-bytes [] = refl
 length-bytes (b ∷ bytes) = omega (arith, length-bytes bytes)
 
--- A record that is shown.
-pub is-shown : (s : Sheet) (r : Record) (bytes out left : List ℕ) (n owed : ℕ) → isShown (length out) bytes ≡ true → r ≡ recordOf (take 32 bytes) → n ≡ length (eventText s r) → left ≡ sets out 0 (eventText s r) → owed ≡ owedAfter s r
-    → (_≡_ {A = Shown} record { sheet = record { owed = owed; begun = true }; taken = 32; written = n } (shownOf (length out) bytes s)) × (left ≡ sets out 0 (shownText (length out) bytes s))
-is-shown s r bytes out left n owed t e f g h = rw (t, sym e) (rw (f, h), g)
+-- The word for bytes as they stand, a space, and their digits.
+pub raw-written : (out first last : List ℕ) (at next : ℕ) (bytes : List ℕ) → next ≡ at + length (wordAt 36) → first ≡ sets out at (wordAt 36) → next ≤ at + 16 → last ≡ sets (set first next 32) (next + 1) (bytesText bytes)
+    → (next + 1 + 2 * length bytes ≡ at + length (rawText bytes)) × (last ≡ sets out at (rawText bytes)) × (next + 1 + 2 * length bytes ≤ at + 17 + 2 * length bytes)
+raw-written out first last at next bytes n l h e =
+    let both = joined out first last at next (next + 1 + 2 * length bytes) (wordAt 36) (32 ∷ bytesText bytes) n l (omega (arith, length-bytes bytes)) (e ∙ rw (add-one next)) in
+    (both .0, both .1, omega arith)
 
--- A line of bytes: the word, a space, the digits, a line feed.
-pub raw-written : (out first then last : List ℕ) (at next : ℕ) (rest : List ℕ) → next ≡ at + length (wordAt 36) → first ≡ sets out at (wordAt 36) → then ≡ sets (set first next 32) (next + 1) (bytesText rest) → last ≡ set then (next + 1 + 2 * length rest) 10
-    → (next + 1 + 2 * length rest + 1 ≡ at + length (rawText rest)) × (last ≡ sets out at (rawText rest))
-raw-written out first then last at next rest n a b e =
-    let after : List ℕ = 32 ∷ (bytesText rest ++ (10 ∷ [])) in
-    let long : length (bytesText rest) ≡ 2 * length rest = length-bytes rest in
-    let more : length (bytesText rest ++ (10 ∷ [])) ≡ length (bytesText rest) + 1 = length-append (bytesText rest) (10 ∷ []) in
-    let size : length (rawText rest) ≡ length (wordAt 36) + length after = length-append (wordAt 36) after in
-    let there : next + 1 + 2 * length rest ≡ suc next + length (bytesText rest) = omega (arith, long) in
-    let start : then ≡ sets (set first next 32) (suc next) (bytesText rest) = b ∙ rw (add-one next) in
-    let written : last ≡ sets first next after =
-    e
-    ∙ ap (λ (k : ℕ). set then k 10) there
-    ∙ ap (λ (m : List ℕ). set m (suc next + length (bytesText rest)) 10) start
-    ∙ sym (sets-append (set first next 32) (suc next) (bytesText rest) (10 ∷ []))
-    in (
-      omega (arith, long, more, size, n),
-      written
-          ∙ ap (λ (m : List ℕ). sets m next after) a
-          ∙ ap (λ (k : ℕ). sets (sets out at (wordAt 36)) k after) n
-          ∙ sym (sets-append out at (wordAt 36) after),
-    )
+-- A record of a kind that has a word, and one of a kind that has none.
+module _ (r : Record) (bytes out left : List ℕ) (at n : ℕ) (e : r ≡ recordOf bytes) where
+  pub by-words : hasWord (r .kind) ≡ true → n ≡ at + length (wordsText r) → left ≡ sets out at (wordsText r)
+      → (n ≡ at + length (recordText bytes)) × (left ≡ sets out at (recordText bytes))
+  by-words t f g = rw (sym e, t) (f, g)
+
+  pub by-digits : hasWord (r .kind) ≡ false → n ≡ at + length (rawText bytes) → left ≡ sets out at (rawText bytes)
+      → (n ≡ at + length (recordText bytes)) × (left ≡ sets out at (recordText bytes))
+  by-digits t f g = rw (sym e, t) (f, g)
+
+-- What stands before a record, and the record.
+pub event-written : (s : Sheet) (r : Record) (bytes out left last : List ℕ) (next n : ℕ) → r ≡ recordOf bytes → next ≡ 0 + length (gapText s r) → left ≡ sets out 0 (gapText s r)
+    → n ≡ next + length (recordText bytes) → last ≡ sets left next (recordText bytes)
+    → (n ≡ length (eventText s bytes)) × (last ≡ sets out 0 (eventText s bytes))
+event-written s r bytes out left last next n e f g h k =
+    let there : next ≡ 0 + length (gapText s (recordOf bytes)) = f ∙ ap (λ (x : Record). 0 + length (gapText s x)) e in
+    let before : left ≡ sets out 0 (gapText s (recordOf bytes)) = g ∙ ap (λ (x : Record). sets out 0 (gapText s x)) e in
+    let both = joined out left last 0 next n (gapText s (recordOf bytes)) (recordText bytes) there before h k in
+    (omega (arith, both .0), both .1)
+
+-- A record that is shown.
+pub is-shown : (s : Sheet) (r : Record) (bytes out left : List ℕ) (n owed : ℕ) → isShown (length out) bytes ≡ true → r ≡ recordOf (take 32 bytes) → n ≡ length (eventText s (take 32 bytes)) → left ≡ sets out 0 (eventText s (take 32 bytes)) → owed ≡ owedAfter s r
+    → (_≡_ {A = Shown} record { sheet = record { owed = owed; begun = true }; taken = 32; written = n } (shownOf (length out) bytes s)) × (left ≡ sets out 0 (shownText (length out) bytes s))
+is-shown s r bytes out left n owed t e f g h =
+    let told : owed ≡ owedAfter s (recordOf (take 32 bytes)) = rw (sym e) h in
+    rw t (rw (f, told), g)

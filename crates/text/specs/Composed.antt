@@ -1,10 +1,9 @@
 -- What a text means: a machine that takes one byte after the other.
-use Prim.Native.Nat.{ℕ, zero, suc, _+_, _*_, _-_, _/_, _%_, _^_}
-use mathlib.Core.Bool.{Bool, true, false, cond, not, _&&_, _||_}
+use Prim.Native.Nat.{ℕ, suc, _+_, _*_, _-_, _/_, _%_}
+use mathlib.Core.Bool.{Bool, true, false, cond, _&&_, _||_}
 use mathlib.Core.List.{List, [], _∷_}
 use lib.Dec.{leb, eqb}
 use lib.ListN.{length, getD, set}
-use lib.Seq.{sets}
 use Rattle.bearers.specs.Sets.{add}
 use Rattle.records.specs.Record.{roomAt, writtenAt}
 use Rattle.records.specs.declared.Record.{Record}

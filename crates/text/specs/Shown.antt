@@ -1,9 +1,9 @@
 -- What records are shown as.
-use Prim.Native.Nat.{ℕ, zero, suc, _+_, _*_, _-_, _/_, _%_}
-use mathlib.Core.Bool.{Bool, true, false, cond, not, _&&_, _||_}
+use Prim.Native.Nat.{ℕ, zero, suc, _+_, _-_, _/_, _%_}
+use mathlib.Core.Bool.{Bool, true, false, cond, _&&_}
 use mathlib.Core.List.{List, [], _∷_, _++_}
-use lib.Dec.{leb, eqb, ltb}
-use lib.ListN.{length, getD, take, drop}
+use lib.Dec.{leb, eqb}
+use lib.ListN.{length, take, drop}
 use Rattle.bearers.specs.Sets.{member}
 use Rattle.lines.specs.Text.{size, digits}
 use Rattle.records.specs.Record.{recordOf}
@@ -36,12 +36,9 @@ valuesOf r =
     r .kind ∷ r .neighbour ∷ r .old .0 ∷ r .new .0 ∷ r .first ∷ r .second ∷ r .reason ∷ r .byte11 ∷ r .number ∷ r .time
     ∷ r .erab ∷ r .qci ∷ r .priority ∷ r .flags ∷ r .bytes28 ∷ []
 
--- a kind's word; a kind without one is `kind` and its number
-abbrev pub kindWord : ℕ → ℕ
-kindWord kind = cond (leb kind 17) kind 0
-
-abbrev pub kindText : ℕ → List ℕ
-kindText kind = wordAt (kindWord kind) ++ cond (leb 1 (kindWord kind)) [] (numberText kind)
+-- whether a kind has a word of its own
+abbrev pub hasWord : ℕ → Bool
+hasWord kind = leb 1 kind && leb kind 17
 
 -- a field's word: the number of a request is a count, that of a bearer its units
 abbrev pub fieldWord : ℕ → ℕ → ℕ
@@ -59,9 +56,25 @@ unfoldable pub fieldsText : ℕ → ℕ → List ℕ → List ℕ
 fieldsText kind f [] = []
 fieldsText kind f (v ∷ vs) = fieldText kind f v ++ fieldsText kind (suc f) vs
 
--- a record
-abbrev pub recordText : Record → List ℕ
-recordText r = kindText (r .kind) ++ fieldsText (r .kind) 1 (drop 1 (valuesOf r))
+-- a record by its words: its kind, and its fields
+abbrev pub wordsText : Record → List ℕ
+wordsText r = wordAt (r .kind) ++ fieldsText (r .kind) 1 (drop 1 (valuesOf r))
+
+-- bytes as hexadecimal digits, two each
+abbrev pub hexDigit : ℕ → ℕ
+hexDigit n = cond (leb n 9) (48 + n) (87 + n)
+
+unfoldable pub bytesText : List ℕ → List ℕ
+bytesText [] = []
+bytesText (b ∷ bs) = hexDigit (b / 16) ∷ hexDigit (b % 16) ∷ bytesText bs
+
+-- "raw and its hex digits"
+abbrev pub rawText : List ℕ → List ℕ
+rawText bytes = wordAt 36 ++ (32 ∷ bytesText bytes)
+
+-- the 32 bytes of a record: "odd records come out as raw", those of a kind that has no word
+abbrev pub recordText : List ℕ → List ℕ
+recordText bytes = let r = recordOf bytes in cond (hasWord (r .kind)) (wordsText r) (rawText bytes)
 
 -- whether a record is a bearer of the request on the open line
 abbrev pub joins : Sheet → Record → Bool
@@ -75,18 +88,18 @@ owedAfter s r = cond (joins s r) (s .owed - 1) (cond (takesBearers r) (r .number
 abbrev pub gapText : Sheet → Record → List ℕ
 gapText s r = cond (joins s r) (32 ∷ []) (cond (s .begun) (10 ∷ []) [])
 
-abbrev pub eventText : Sheet → Record → List ℕ
-eventText s r = gapText s r ++ recordText r
+abbrev pub eventText : Sheet → List ℕ → List ℕ
+eventText s bytes = gapText s (recordOf bytes) ++ recordText bytes
 
 abbrev pub newSheet : Sheet
 newSheet = record { owed = 0; begun = false }
 
 -- whether a record is shown: it is whole, and any record's text has room
 abbrev pub isShown : ℕ → List ℕ → Bool
-isShown room bytes = leb 32 (length bytes) && leb 4980 room
+isShown room bytes = leb 32 (length bytes) && leb 4959 room
 
 abbrev pub shownText : ℕ → List ℕ → Sheet → List ℕ
-shownText room bytes s = cond (isShown room bytes) (eventText s (recordOf (take 32 bytes))) []
+shownText room bytes s = cond (isShown room bytes) (eventText s (take 32 bytes)) []
 
 abbrev pub sheetAfter : Sheet → Record → Sheet
 sheetAfter s r = record { owed = owedAfter s r; begun = true }
@@ -95,25 +108,18 @@ abbrev pub shownOf : ℕ → List ℕ → Sheet → Shown
 shownOf room bytes s =
     let r = recordOf (take 32 bytes) in
     cond (isShown room bytes)
-    record { sheet = sheetAfter s r; taken = 32; written = length (eventText s r) }
+    record { sheet = sheetAfter s r; taken = 32; written = length (eventText s (take 32 bytes)) }
     record { sheet = s; taken = 0; written = 0 }
 
--- bytes as hexadecimal digits, two each
-abbrev pub hexDigit : ℕ → ℕ
-hexDigit n = cond (leb n 9) (48 + n) (87 + n)
-
-unfoldable pub bytesText : List ℕ → List ℕ
-bytesText [] = []
-bytesText (b ∷ bs) = hexDigit (b / 16) ∷ hexDigit (b % 16) ∷ bytesText bs
-
--- "a short piece as raw and its hex digits"
-abbrev pub rawText : List ℕ → List ℕ
-rawText rest = wordAt 36 ++ (32 ∷ (bytesText rest ++ (10 ∷ [])))
-
+-- the open line ends, and what is left of a record is a line of its own: "a short piece as raw and its hex digits"
 abbrev pub endText : Bool → List ℕ
 endText begun = cond begun (10 ∷ []) []
 
--- the open line ends, and what is left of a record is shown
+abbrev pub restText : List ℕ → List ℕ
+restText rest = cond (eqb (length rest) 0) [] (rawText rest ++ (10 ∷ []))
+
+abbrev pub closingText : List ℕ → Sheet → List ℕ
+closingText rest s = endText (s .begun) ++ restText rest
+
 abbrev pub lastText : ℕ → List ℕ → Sheet → List ℕ
-lastText room rest s =
-    cond (leb (length rest) 31 && leb 96 room) (cond (eqb (length rest) 0) (endText (s .begun)) (endText (s .begun) ++ rawText rest)) []
+lastText room rest s = cond (leb (length rest) 31 && leb 96 room) (closingText rest s) []

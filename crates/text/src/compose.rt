@@ -5,10 +5,8 @@ use records::NewId;
 use records::OldId;
 use records::Record;
 ghost use mathlib.Core.Path.{_≡_};
-ghost use mathlib.Core.Bool.{cond, _&&_};
 ghost use Prim.Native.Nat.{_+_, _≤_, _<_};
-ghost use lib.Dec.{eqb};
-ghost use lib.ListN.{length, set};
+ghost use lib.ListN.{set};
 ghost use Rattle.text.specs.Composed.{isGap, isSet, takesDigit, grown, longer, emptyWord, pushed, recordFrom, added, nextField, wrong, tooLong, put, begun, chosen, rawBegun, nibble, hexValue, appended, withWord, isPair, commented, finished, made, stage, hex, understood, settle, lacksCount, counted, close, typed, step, newDraft, readFrom, takenFrom};
 
 // What a number in a field may be: for a set, an ID.

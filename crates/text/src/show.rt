@@ -13,7 +13,7 @@ ghost use lib.ListN.{length, take, drop};
 ghost use lib.Seq.{sets};
 ghost use Rattle.records.specs.Record.{recordOf};
 ghost use Rattle.records.specs.Stream.{takesBearers};
-ghost use Rattle.text.specs.Shown.{numberText, spacedWord, idText, idsText, valuesOf, kindWord, kindText, fieldWord, valueText, fieldText, fieldsText, recordText, joins, owedAfter, gapText, eventText, hexDigit, bytesText, newSheet, shownOf, shownText, lastText, endText, rawText};
+ghost use Rattle.text.specs.Shown.{numberText, spacedWord, idText, idsText, valuesOf, hasWord, fieldWord, valueText, fieldText, fieldsText, wordsText, hexDigit, bytesText, rawText, recordText, joins, owedAfter, gapText, eventText, newSheet, shownOf, shownText, endText, restText, lastText};
 
 // Between two records: how many bearers the last request may still take, and whether a line is open.
 pub struct Sheet {
@@ -90,24 +90,11 @@ fn values_of(r: Record) -> [u64; 15]
     ]
 }
 
-// A kind's word; 0 for a kind that has none.
-fn kind_word(kind: u8) -> usize
-    ensures { λ r. ⌜ (r ≡ kindWord kind) × (r ≤ 17) ⌝ }
+// Whether a kind has a word of its own.
+fn has_word(kind: u8) -> bool
+    ensures { λ r. ⌜ r ≡ hasWord kind ⌝ }
 {
-    if kind <= 17 { kind as usize } else { 0 }
-}
-
-// Writes a kind.
-fn write_kind(kind: u8, out: &mut [u8], at: usize) -> usize
-    requires { ⌜ at + 37 ≤ length (now out) ⌝ }
-    ensures { λ r. ⌜ (r ≡ at + length (kindText kind)) × (now (out .exit) ≡ sets (now (out .entry)) at (kindText kind)) × (r ≤ at + 37) ⌝ }
-{
-    let word = kind_word(kind);
-    let next = write_word(word, out, at);
-    if 1 <= word {
-        return next;
-    }
-    write_number(kind as u64, out, next)
+    (1 <= kind) & (kind <= 17)
 }
 
 // The word of a field: the number of a request is a count, that of a bearer its units.
@@ -159,14 +146,60 @@ fn write_fields(values: [u64; 15], kind: u8, out: &mut [u8], at: usize) -> usize
     place
 }
 
-// Writes a record.
-fn write_record(r: Record, out: &mut [u8], at: usize) -> usize
-    requires { ⌜ at + 4979 ≤ length (now out) ⌝ }
-    ensures { λ n. ⌜ (n ≡ at + length (recordText r)) × (now (out .exit) ≡ sets (now (out .entry)) at (recordText r)) × (n ≤ at + 4979) ⌝ }
+// Writes a record by its words.
+fn write_words(r: Record, out: &mut [u8], at: usize) -> usize
+    requires { ⌜ (r .kind ≤ 17) × (at + 4958 ≤ length (now out)) ⌝ }
+    ensures { λ n. ⌜ (n ≡ at + length (wordsText r)) × (now (out .exit) ≡ sets (now (out .entry)) at (wordsText r)) × (n ≤ at + 4958) ⌝ }
 {
     let values = values_of(r);
-    let next = write_kind(r.kind, out, at);
+    let next = write_word(r.kind as usize, out, at);
     write_fields(values, r.kind, out, next)
+}
+
+// A hexadecimal digit.
+fn digit(n: u8) -> u8
+    requires { ⌜ n < 16 ⌝ }
+    ensures { λ r. ⌜ r ≡ hexDigit n ⌝ }
+{
+    if n <= 9 { 48 + n } else { 87 + n }
+}
+
+// Writes bytes as hexadecimal digits, two each.
+fn write_bytes(bytes: &[u8], out: &mut [u8], at: usize)
+    requires { ⌜ at + 2 * length (now bytes) ≤ length (now out) ⌝ }
+    ensures { λ _. ⌜ now (out .exit) ≡ sets (now (out .entry)) at (bytesText (now (bytes .entry))) ⌝ }
+{
+    let mut i: usize = 0;
+    while i < bytes.len() {
+        let byte = bytes[i];
+        let place = at + 2 * i;
+        out[place] = digit(byte / 16);
+        out[place + 1] = digit(byte % 16);
+        i += 1;
+    }
+}
+
+// Writes bytes as they stand: the word for them, and their digits.
+fn write_raw(bytes: &[u8], out: &mut [u8], at: usize) -> usize
+    requires { ⌜ at + 17 + 2 * length (now bytes) ≤ length (now out) ⌝ }
+    ensures { λ r. ⌜ (r ≡ at + length (rawText (now (bytes .entry)))) × (now (out .exit) ≡ sets (now (out .entry)) at (rawText (now (bytes .entry)))) × (r ≤ at + 17 + 2 * length (now (bytes .entry))) ⌝ }
+{
+    let next = write_word(36, out, at);
+    out[next] = 32;
+    let from = next + 1;
+    write_bytes(bytes, out, from);
+    from + 2 * bytes.len()
+}
+
+// Writes the record of 32 bytes: by its words, or as it stands where its kind has none.
+fn write_record(r: Record, bytes: &[u8], out: &mut [u8], at: usize) -> usize
+    requires { ⌜ (length (now bytes) ≡ 32) × (r ≡ recordOf (now bytes)) × (at + 4958 ≤ length (now out)) ⌝ }
+    ensures { λ n. ⌜ (n ≡ at + length (recordText (now (bytes .entry)))) × (now (out .exit) ≡ sets (now (out .entry)) at (recordText (now (bytes .entry)))) × (n ≤ at + 4958) ⌝ }
+{
+    if has_word(r.kind) {
+        return write_words(r, out, at);
+    }
+    write_raw(bytes, out, at)
 }
 
 // Whether a record is a bearer of the request on the open line.
@@ -212,36 +245,13 @@ fn write_gap(s: Sheet, r: Record, out: &mut [u8], at: usize) -> usize
     at
 }
 
-// Writes a record, and what stands before it.
-fn write_event(s: Sheet, r: Record, out: &mut [u8]) -> usize
-    requires { ⌜ 4980 ≤ length (now out) ⌝ }
-    ensures { λ n. ⌜ (n ≡ length (eventText s r)) × (now (out .exit) ≡ sets (now (out .entry)) 0 (eventText s r)) × (n ≤ 4980) ⌝ }
+// Writes the record of 32 bytes, and what stands before it.
+fn write_event(s: Sheet, r: Record, bytes: &[u8], out: &mut [u8]) -> usize
+    requires { ⌜ (length (now bytes) ≡ 32) × (r ≡ recordOf (now bytes)) × (4959 ≤ length (now out)) ⌝ }
+    ensures { λ n. ⌜ (n ≡ length (eventText s (now (bytes .entry)))) × (now (out .exit) ≡ sets (now (out .entry)) 0 (eventText s (now (bytes .entry)))) ⌝ }
 {
     let next = write_gap(s, r, out, 0);
-    write_record(r, out, next)
-}
-
-// A hexadecimal digit.
-fn digit(n: u8) -> u8
-    requires { ⌜ n < 16 ⌝ }
-    ensures { λ r. ⌜ r ≡ hexDigit n ⌝ }
-{
-    if n <= 9 { 48 + n } else { 87 + n }
-}
-
-// Writes bytes as hexadecimal digits, two each.
-fn write_bytes(bytes: &[u8], out: &mut [u8], at: usize)
-    requires { ⌜ at + 2 * length (now bytes) ≤ length (now out) ⌝ }
-    ensures { λ _. ⌜ now (out .exit) ≡ sets (now (out .entry)) at (bytesText (now (bytes .entry))) ⌝ }
-{
-    let mut i: usize = 0;
-    while i < bytes.len() {
-        let byte = bytes[i];
-        let place = at + 2 * i;
-        out[place] = digit(byte / 16);
-        out[place + 1] = digit(byte % 16);
-        i += 1;
-    }
+    write_record(r, bytes, out, next)
 }
 
 // The record at the front of some bytes.
@@ -279,9 +289,9 @@ impl Sheet {
         ensures { λ r. ⌜ (r ≡ shownOf (length (now (out .entry))) (now (bytes .entry)) self) × (now (out .exit) ≡ sets (now (out .entry)) 0 (shownText (length (now (out .entry))) (now (bytes .entry)) self)) ⌝ }
     {
         let s = self;
-        if (32 <= bytes.len()) & (4980 <= out.len()) {
+        if (32 <= bytes.len()) & (4959 <= out.len()) {
             let r = record_at(bytes);
-            let written = write_event(s, r, out);
+            let written = write_event(s, r, &bytes[..32], out);
             let sheet = Sheet {
                 owed: owed_after(s, r),
                 begun: true,
@@ -307,10 +317,7 @@ impl Sheet {
             return 0;
         }
         let at = write_end(self.begun, out);
-        if rest.len() == 0 {
-            return at;
-        }
-        write_raw(rest, out, at)
+        write_rest(rest, out, at)
     }
 }
 
@@ -326,16 +333,15 @@ fn write_end(begun: bool, out: &mut [u8]) -> usize
     0
 }
 
-// Writes a line of bytes.
-fn write_raw(rest: &[u8], out: &mut [u8], at: usize) -> usize
+// Writes what is left of a record as a line of its own.
+fn write_rest(rest: &[u8], out: &mut [u8], at: usize) -> usize
     requires { ⌜ at + 18 + 2 * length (now rest) ≤ length (now out) ⌝ }
-    ensures { λ r. ⌜ (r ≡ at + length (rawText (now (rest .entry)))) × (now (out .exit) ≡ sets (now (out .entry)) at (rawText (now (rest .entry)))) ⌝ }
+    ensures { λ r. ⌜ (r ≡ at + length (restText (now (rest .entry)))) × (now (out .exit) ≡ sets (now (out .entry)) at (restText (now (rest .entry)))) ⌝ }
 {
-    let next = write_word(36, out, at);
-    out[next] = 32;
-    let from = next + 1;
-    write_bytes(rest, out, from);
-    let end = from + 2 * rest.len();
+    if rest.len() == 0 {
+        return at;
+    }
+    let end = write_raw(rest, out, at);
     out[end] = 10;
     end + 1
 }

@@ -2,7 +2,6 @@
 use Prim.Native.Nat.{ℕ, _≤_}
 use mathlib.Core.Path.{_≡_, sym, subst}
 use mathlib.Core.Bool.{true}
-use lib.ListN.{length}
 use lib.Seq.{length-take-le}
 use Rattle.table.specs.Reached.{Reached, born}
 use Rattle.lines.specs.declared.Run.{Run}

@@ -9,7 +9,7 @@ use Rattle.show.proofs.main.Statement.{statement}
 use Rattle.show.proofs.main.Tie as tie
 
 abbrev Inv-loop : tie.InvT-loop
-Inv-loop input₀ output₀ s₀ turns₀ input output s turns = (length input ≡ 65536) × (length output ≡ 4980)
+Inv-loop input₀ output₀ s₀ turns₀ input output s turns = (length input ≡ 65536) × (length output ≡ 4959)
 
 abbrev μ-loop : tie.MeasureT-loop
 μ-loop input₀ output₀ s₀ turns₀ input output s turns = turns

@@ -1,6 +1,4 @@
-use native.Mathlib.Omega.{arith}
-use Rattle.lines.proofs.Writing.{joined}
-use Rattle.text.specs.Shown.{gapText, recordText}
+use Rattle.text.proofs.Writing.{event-written}
 use borrow.Author.Needs.{needs}
 use Rattle.text.proofs.show.write_event.Statement.{statement}
 use Rattle.text.proofs.show.write_event.Tie as tie
@@ -16,11 +14,10 @@ same-length c = search needs
 
 returns : tie.Need-returns
 returns c =
-    let start = c .before .before .before .before .before .before .before .before .before in
+    let start = c .before .before .before .before .before .before .before .before .before .before .args in
     let first = c .before .before .before .before .before .before .write-gap .ensures in
     let then = c .before .before .write-record .ensures in
-    let both = joined (start .args .out .now) _ _ 0 _ _ (gapText (start .args .s) (start .args .r)) (recordText (start .args .r)) (first .0) (first .1) (then .0) (then .1) in
-    (omega (arith, both .0), both .1, omega (arith, first .2, then .2))
+    event-written (start .s) (start .r) (start .bytes .now) (start .out .now) _ _ _ _ (c .before .before .before .before .before .before .before .before .before .before .pre .1) (first .0) (first .1) (then .0) (then .1)
 
 pub write-event-spec : {M : Type 1} → statement M
 write-event-spec =

@@ -1,34 +1,48 @@
+use mathlib.Core.Path.{sym, _∙_}
 use native.Mathlib.Omega.{arith}
-use Rattle.lines.proofs.Writing.{joined}
-use lib.ListN.{drop}
-use Rattle.text.specs.Shown.{kindText, fieldsText, valuesOf}
+use Rattle.text.proofs.Digits.{between}
+use Rattle.text.proofs.Writing.{by-words, by-digits}
 use borrow.Author.Needs.{needs}
 use Rattle.text.proofs.show.write_record.Statement.{statement}
 use Rattle.text.proofs.show.write_record.Tie as tie
 
-values-of-requires : tie.Need-values-of-requires
-values-of-requires c κs = search needs
+has-word-requires : tie.Need-has-word-requires
+has-word-requires c κs = search needs
 
-write-kind-requires : tie.Need-write-kind-requires
-write-kind-requires c κs = search needs
-
-write-fields-requires : tie.Need-write-fields-requires
-write-fields-requires c κs = search needs
+write-words-requires : tie.Need-write-words-requires
+write-words-requires c κs = (between 1 17 (c .before .before .before .before .before .args .r .kind) (sym (c .before .before .has-word .ensures) ∙ c .before .if1 .taken) .1, c .before .before .before .before .before .pre .2)
 
 same-length : tie.Need-same-length
 same-length c = search needs
 
 returns : tie.Need-returns
 returns c =
-    let start = c .before .before .before .before .before .before .before .before .before .before in
-    let kind = start .args .r .kind in
-    let first = c .before .before .before .before .before .before .write-kind .ensures in
-    let then = c .before .before .write-fields .ensures in
-    let same = c .before .before .before .before .before .before .before .before .values-of .ensures in
-    let both = joined (start .args .out .now) _ _ (start .args .at) _ _ (kindText kind) (fieldsText kind 1 (drop 1 (valuesOf (start .args .r)))) (first .0) (first .1) (rw same at (then .0)) (rw same at (then .1)) in
-    (both .0, both .1, omega (arith, first .2, then .2))
+    let start = c .before .before .before .before .before .before .before .before .args in
+    let words = c .before .before .write-words .ensures in
+    let text = by-words (start .r) (start .bytes .now) (start .out .now) _ (start .at) _ (c .before .before .before .before .before .before .before .before .pre .1) (sym (c .before .before .before .before .before .has-word .ensures) ∙ c .before .before .before .before .if1 .taken) (words .0) (words .1) in
+    (text .0, text .1, words .2)
+
+write-raw-requires : tie.Need-write-raw-requires
+write-raw-requires c κs = search needs
+
+same-length-2 : tie.Need-same-length-2
+same-length-2 c = search needs
+
+returns-2 : tie.Need-returns-2
+returns-2 c =
+    let start = c .before .before .before .before .before .before .before .before .args in
+    let raw = c .before .before .write-raw .ensures in
+    let text = by-digits (start .r) (start .bytes .now) (start .out .now) _ (start .at) _ (c .before .before .before .before .before .before .before .before .pre .1) (sym (c .before .before .before .before .before .has-word .ensures) ∙ c .before .before .before .before .if1 .left) (raw .0) (raw .1) in
+    (text .0, text .1, omega (arith, raw .2, c .before .before .before .before .before .before .before .before .pre .0))
 
 pub write-record-spec : {M : Type 1} → statement M
 write-record-spec =
     tie.close
-    (tie.spec values-of-requires write-kind-requires write-fields-requires same-length returns)
+    (tie.spec
+    has-word-requires
+    write-words-requires
+    same-length
+    returns
+    write-raw-requires
+    same-length-2
+    returns-2)
