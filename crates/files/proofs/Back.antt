@@ -8,17 +8,16 @@ use borrow.Author.Tests.{leb-true, eqb-true}
 use lib.Dec.{leb, eqb}
 use lib.ListN.{length, take, drop, length-drop, take-append-drop, List·getD-append}
 use lib.Seq.{length-take-le, take-all}
-use Rattle.laws.proofs.Tests.{both-true, by-cases}
+use Rattle.laws.proofs.Tests.{both-true, by-cases, on-false}
 use Rattle.records.specs.Record.{recordOf, bytesOf, writtenAt, AreBytes, InRange}
 use Rattle.records.specs.Stream.{takesBearers}
 use Rattle.records.specs.declared.Record.{Record}
 use Rattle.records.proofs.RoundTrip.{in-range, bytes-back, bytes-take, bytes-drop}
 use Rattle.text.specs.declared.show.Sheet.{Sheet}
 use Rattle.text.specs.Composed.{Made, made, newDraft, blankValues, stage, step}
-use Rattle.text.specs.Shown.{valuesOf, endText, joins, newSheet, sheetAfter}
+use Rattle.text.specs.Shown.{valuesOf, endText, joins, newSheet, sheetAfter, hasWord, wordsText, rawText, recordText, eventText, restText}
 use Rattle.text.proofs.Digits.{between}
-use Rattle.text.proofs.Machine.{on-false, step-gap}
-use Rattle.files.specs.Anew.{hasWord, wordsText, rawText, recordText, eventText, restText}
+use Rattle.text.proofs.Machine.{step-gap}
 use Rattle.files.specs.Files.{shownFrom, shownFile, composedFrom, composedIn}
 use Rattle.files.proofs.Leading.{at, resting, leads-on, leads-to, Reads}
 use Rattle.files.proofs.Fields.{record-read}

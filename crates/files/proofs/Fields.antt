@@ -14,9 +14,8 @@ use Rattle.records.specs.Record.{InRange}
 use Rattle.records.specs.declared.Record.{Record}
 use Rattle.text.specs.declared.compose.Word.{Word}
 use Rattle.text.specs.Words.{wordAt}
-use Rattle.text.specs.Shown.{spacedWord, valuesOf, fieldWord, valueText, fieldText, fieldsText}
+use Rattle.text.specs.Shown.{spacedWord, valuesOf, fieldWord, valueText, fieldText, fieldsText, wordsText}
 use Rattle.text.specs.Composed.{isSet, limits, fields, nextField, Made, stage}
-use Rattle.files.specs.Anew.{wordsText}
 use Rattle.files.proofs.Leading.{at, resting, Reads}
 use Rattle.files.proofs.Typing.{Adds, adds-none, adds-on, adds-word, allBelow, below, kind-read, field-read, number-read}
 use Rattle.files.proofs.Members.{ids-read}

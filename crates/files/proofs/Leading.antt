@@ -5,10 +5,10 @@ use mathlib.Core.Bool.{false}
 use mathlib.Core.List.{List, [], _∷_, _++_, append-assoc}
 use native.Mathlib.Omega.{arith}
 use borrow.Author.Tests.{ne-eqb}
+use Rattle.laws.proofs.Tests.{on-false}
 use Rattle.text.specs.declared.compose.Word.{Word}
 use Rattle.text.specs.Composed.{Made, made, emptyWord, isGap, step, settle}
 use Rattle.files.specs.Files.{composedFrom}
-use Rattle.text.proofs.Machine.{on-false}
 
 -- a line that has not ended
 abbrev pub at : List ℕ → ℕ → ℕ → ℕ → Word → List ℕ → Made

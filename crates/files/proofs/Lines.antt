@@ -7,14 +7,14 @@ use native.Mathlib.Omega.{arith}
 use borrow.Author.Tests.{le-leb, eqb-true}
 use lib.Dec.{leb, eqb}
 use lib.ListN.{length, getD, take, drop}
-use Rattle.laws.proofs.Tests.{both-true, by-cases}
+use Rattle.laws.proofs.Tests.{both-true, by-cases, on-false}
 use Rattle.records.specs.Record.{bytesOf, writtenAt, InRange}
 use Rattle.records.specs.declared.Record.{Record}
 use Rattle.text.specs.declared.compose.Word.{Word}
 use Rattle.text.specs.declared.compose.Draft.{Draft}
 use Rattle.text.specs.Composed.{Made, made, newDraft, emptyWord, lacksCount, finished, stage, settle, counted, close, step}
 use Rattle.text.specs.Shown.{valuesOf}
-use Rattle.text.proofs.Machine.{on-false, lacks, close-on, step-end}
+use Rattle.text.proofs.Machine.{lacks, close-on, step-end}
 use Rattle.files.specs.Files.{composedFrom}
 use Rattle.files.proofs.Leading.{at, resting}
 use Rattle.files.proofs.Filling.{Holds, holds-at, holds-record, fields-back}

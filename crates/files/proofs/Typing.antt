@@ -7,12 +7,12 @@ use native.Mathlib.Omega.{arith}
 use borrow.Author.Tests.{le-leb, eq-eqb, ne-eqb, leb-false, eqb-true, eqb-false, not-true}
 use lib.Dec.{leb, eqb}
 use lib.ListN.{getD, set}
-use Rattle.laws.proofs.Tests.{both-true, by-cases}
+use Rattle.laws.proofs.Tests.{both-true, by-cases, on-true}
 use Rattle.lines.specs.Text.{sizeIn, size, digits}
 use Rattle.text.specs.declared.compose.Word.{Word}
 use Rattle.text.specs.Words.{isSame, placeIn, placeOf, trimmed, wordAt}
 use Rattle.text.specs.Composed.{isGap, takesDigit, longer, emptyWord, pushed, blankValues, limits, fields, added, nextField, put, begun, chosen, Made, stage, understood, settle, step}
-use Rattle.text.proofs.Machine.{on-true, a-kind, a-field, settle-number, settle-word, typed-on, step-gap, step-typed}
+use Rattle.text.proofs.Machine.{a-kind, a-field, settle-number, settle-word, typed-on, step-gap, step-typed}
 use Rattle.files.proofs.Leading.{at, resting, Leads, leads-on, leads-to, no-gap, Reads}
 
 -- ---- one text after another

@@ -6,8 +6,7 @@ use lib.Dec.{leb}
 use lib.ListN.{length, take, drop}
 use Rattle.records.specs.Record.{recordOf}
 use Rattle.text.specs.declared.show.Sheet.{Sheet}
-use Rattle.text.specs.Shown.{sheetAfter, newSheet}
-use Rattle.files.specs.Anew.{eventText, closingText}
+use Rattle.text.specs.Shown.{sheetAfter, newSheet, eventText, closingText}
 use Rattle.text.specs.Composed.{Made, made, step, newDraft}
 
 -- so many records one after the other, then what is left

@@ -1,2 +1,1 @@
-pub mod Anew
 pub mod Files

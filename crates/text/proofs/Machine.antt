@@ -1,7 +1,7 @@
 -- The machine, one case after the other: what each of its functions is where its tests are known.
 use Prim.Native.Nat.{ℕ, suc, _+_, _≤_, _<_}
 use mathlib.Core.Path.{_≡_, refl, sym, _∙_, ap}
-use mathlib.Core.Bool.{Bool, true, false, cond, not, _&&_, false≢true}
+use mathlib.Core.Bool.{Bool, true, false, not, _&&_, false≢true}
 use mathlib.Core.List.{List}
 use native.Mathlib.Numerals.{add-one}
 use native.Mathlib.Omega.{arith}
@@ -9,17 +9,10 @@ use borrow.Author.Tests.{leb-true, le-leb, lt-leb, eq-eqb, ne-eqb, ltb-true, ltb
 use lib.Dec.{leb, ltb, eqb}
 use lib.ListN.{length, getD, drop, drop-of-length-le, set}
 use lib.Seq.{drop-cons}
-use Rattle.laws.proofs.Tests.{both-true, by-cases}
+use Rattle.laws.proofs.Tests.{both-true, by-cases, on-true, on-false}
 use Rattle.text.specs.declared.compose.Draft.{Draft}
 use Rattle.text.specs.Composed.{hexValue, tooLong, appended, Made, made, onDraft, begun, chosen, put, rawBegun, wrong, pushed, withWord, isPair, isGap, lacksCount, counted, stage, hex, understood, settle, close, commented, finished, typed, step, readFrom, takenFrom}
 use Rattle.text.specs.Words.{placeOf}
-
--- A choice whose test is known.
-pub on-true : {A : Type 0} (b : Bool) (x y : A) → b ≡ true → cond b x y ≡ x
-on-true b x y t = rw t
-
-pub on-false : {A : Type 0} (b : Bool) (x y : A) → b ≡ false → cond b x y ≡ y
-on-false b x y t = rw t
 
 -- a word of the table
 module _ (m : Made) (k : ℕ) where

@@ -172,7 +172,7 @@ fn push(w: Word, byte: u8) -> Word
 }
 
 // The record of so many fields.
-pub(crate) fn record_from(values: [u64; 15]) -> Record
+fn record_from(values: [u64; 15]) -> Record
     ensures { λ r. ⌜ r ≡ recordFrom values ⌝ }
 {
     Record {

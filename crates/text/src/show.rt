@@ -1,6 +1,5 @@
 // Records in, lines out.
 use crate::compose::is_set;
-use crate::compose::record_from;
 use crate::words::write_word;
 use bearers::sets::member;
 use lines::text::size;
@@ -262,7 +261,7 @@ fn record_at(bytes: &[u8]) -> Record
     let read = Record::read(bytes, 0);
     match read {
         Read::Whole(r) => r,
-        Read::Nothing => record_from([0; 15]),
+        Read::Nothing => Record::zeros(),
     }
 }
 

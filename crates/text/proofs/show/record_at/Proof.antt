@@ -18,8 +18,8 @@ enum-known-read c = search needs
 enum-told : tie.Need-enum-told
 enum-told c = search needs
 
-record-from-requires : tie.Need-record-from-requires
-record-from-requires c κs = search needs
+zeros-requires : tie.Need-zeros-requires
+zeros-requires c κs = search needs
 
 returns : tie.Need-returns
 returns c = sym (was-whole (roomAt (c .before .before .before .before .before .args .bytes .now) 0) (recordOf (take 32 (c .before .before .before .before .before .args .bytes .now))) _ (sym (c .before .before .before .read .ensures) ∙ c .before .read2 .given .1) .1)
@@ -30,4 +30,4 @@ returns-2 c = absurd (false≢true (sym (was-short (roomAt (c .before .before .b
 pub record-at-spec : {M : Type 1} → statement M
 record-at-spec =
     tie.close
-    (tie.spec read-requires enum-known-read enum-told record-from-requires returns returns-2)
+    (tie.spec read-requires enum-known-read enum-told zeros-requires returns returns-2)
