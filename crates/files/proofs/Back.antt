@@ -4,7 +4,7 @@ use mathlib.Core.Path.{_≡_, refl, sym, _∙_, ap}
 use mathlib.Core.Bool.{true, false, cond, false≢true}
 use mathlib.Core.List.{List, [], _∷_, _++_, append-assoc, append-nil}
 use native.Mathlib.Omega.{arith}
-use borrow.Author.Tests.{leb-true, eqb-true}
+use borrow.Author.Tests.{le-leb, leb-true, eqb-true}
 use lib.Dec.{leb, eqb}
 use lib.ListN.{length, take, drop, length-drop, take-append-drop, List·getD-append}
 use lib.Seq.{length-take-le, take-all}
@@ -195,7 +195,7 @@ records-back : (n : ℕ) (bytes : List ℕ) (s : Sheet) (m : Made) (line : List 
     → composedFrom (shownFrom n bytes s) m ≡ line ++ bytes
 unfolding shownFrom
 records-back zero bytes s m line e h o =
-    rw (o .ends .gives (restText bytes), rest-back bytes h (omega arith) (o .ends .left) (o .ends .size))
+    rw (le-leb (length bytes) 31 (omega arith), o .ends .gives (restText bytes), rest-back bytes h (omega arith) (o .ends .left) (o .ends .size))
 records-back (suc n) bytes s m line e h o =
     let one = take 32 bytes in
     let rest = drop 32 bytes in
@@ -204,7 +204,7 @@ records-back (suc n) bytes s m line e h o =
     records-back n rest _ (next .now) (next .line) (rw length-drop (omega arith)) (bytes-drop 32 bytes h) (next .stands)
     in
     let whole : (line ++ one) ++ rest ≡ line ++ bytes = rw (append-assoc line one rest, take-append-drop 32 bytes) in
-    rw (next .gives (shownFrom n rest (sheetAfter s (recordOf one))), more, ← append-assoc (next .given) (next .line) rest, next .same) whole
+    rw (le-leb 32 (length bytes) (omega arith), next .gives (shownFrom n rest (sheetAfter s (recordOf one))), more, ← append-assoc (next .given) (next .line) rest, next .same) whole
 
 -- Every file comes back; the buffer has room for the longest line, a request and 256 bearers.
 pub file-back : (bytes out : List ℕ) → AreBytes bytes → length out ≡ 8224 → composedIn out (shownFile bytes) ≡ bytes

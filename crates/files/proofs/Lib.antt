@@ -5,4 +5,5 @@ pub mod Leading
 pub mod Lines
 pub mod Members
 pub mod Raw
+pub mod Reading
 pub mod Typing

@@ -4,17 +4,14 @@ use mathlib.Core.Bool.{cond}
 use mathlib.Core.List.{List, [], _∷_, _++_}
 use lib.Dec.{leb}
 use lib.ListN.{length, take, drop}
-use Rattle.records.specs.Record.{recordOf}
 use Rattle.text.specs.declared.show.Sheet.{Sheet}
-use Rattle.text.specs.Shown.{sheetAfter, newSheet, eventText, closingText}
+use Rattle.text.specs.Shown.{newSheet, shownOf, shownText, lastText}
 use Rattle.text.specs.Composed.{Made, made, step, newDraft}
 
--- so many records one after the other, then what is left
+-- so many records one after the other, then what is left, each shown in a buffer that has room for any
 unfoldable pub shownFrom : ℕ → List ℕ → Sheet → List ℕ
-shownFrom zero bytes s = closingText bytes s
-shownFrom (suc n) bytes s =
-    let one = take 32 bytes in
-    eventText s one ++ shownFrom n (drop 32 bytes) (sheetAfter s (recordOf one))
+shownFrom zero bytes s = lastText 4959 bytes s
+shownFrom (suc n) bytes s = shownText 4959 bytes s ++ shownFrom n (drop 32 bytes) (shownOf 4959 bytes s .sheet)
 
 -- what a file of records is shown as
 abbrev pub shownFile : List ℕ → List ℕ
