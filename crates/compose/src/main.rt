@@ -3,7 +3,8 @@ use libc::STDERR_FILENO;
 use libc::STDIN_FILENO;
 use libc::STDOUT_FILENO;
 use text::compose::Draft;
-use text::compose::step;
+ghost use mathlib.Core.Path.{_≡_};
+ghost use mathlib.Core.Bool.{false};
 
 // A run between two reads: the line as far as it was read, its number, and whether there is more to do.
 struct Stage {
@@ -12,7 +13,16 @@ struct Stage {
     more: bool,
 }
 
-// Tells of a line that is not understood.
+// Writes so many bytes of a word, or those that are kept of it.
+fn write_word(text: &[u8], size: usize) {
+    if text.len() < size {
+        io::write_all(STDERR_FILENO, text);
+        return;
+    }
+    io::write_all(STDERR_FILENO, &text[..size]);
+}
+
+// Tells of a line that is not understood, and at which word.
 fn complain(d: Draft, line: u64) {
     let w = d.word;
     let text = w.text;
@@ -23,7 +33,7 @@ fn complain(d: Draft, line: u64) {
         return;
     }
     io::write_all(STDERR_FILENO, b": not understood: ");
-    io::write_all(STDERR_FILENO, &text);
+    write_word(&text, w.size);
     io::write_all(STDERR_FILENO, b"\n");
 }
 
@@ -37,18 +47,15 @@ fn write_line(d: Draft, line: u64, output: &[u8]) -> bool {
     true
 }
 
-// Reads one byte more.
-fn take(s: Stage, byte: u8, output: &mut [u8]) -> Stage {
+// Where a line has ended its records are written, and the next begins.
+fn next_line(s: Stage, output: &[u8]) -> Stage
+    ensures { λ r. ⌜ r .draft .ended ≡ false ⌝ }
+{
     let draft = s.draft;
-    let next = step(draft, byte, output);
-    if !next.ended {
-        return Stage {
-            draft: next,
-            line: s.line,
-            more: s.more,
-        };
+    if !draft.ended {
+        return s;
     }
-    let is_written = write_line(next, s.line, output);
+    let is_written = write_line(draft, s.line, output);
     if !is_written {
         io::write_all(STDERR_FILENO, b"compose: cannot write\n");
     }
@@ -60,19 +67,33 @@ fn take(s: Stage, byte: u8, output: &mut [u8]) -> Stage {
     }
 }
 
-// Reads the bytes of a block.
-fn take_all(s: Stage, bytes: &[u8], output: &mut [u8]) -> Stage {
+// Reads the bytes of a block, one line after the other.
+fn take_all(s: Stage, bytes: &[u8], output: &mut [u8]) -> Stage
+    requires { ⌜ s .draft .ended ≡ false ⌝ }
+    ensures { λ r. ⌜ r .draft .ended ≡ false ⌝ }
+{
     let mut now = s;
-    let mut i: usize = 0;
-    while (i < bytes.len()) & now.more {
-        now = take(now, bytes[i], output);
-        i += 1;
+    let mut taken: usize = 0;
+    while (taken < bytes.len()) & now.more {
+        let begun = now.draft;
+        let progress = begun.read(&bytes[taken..], output);
+        let draft = progress.draft;
+        let read = Stage {
+            draft,
+            line: now.line,
+            more: now.more,
+        };
+        now = next_line(read, output);
+        taken += progress.taken;
     }
     now
 }
 
 // Reads once, and takes what is there. At the end of the input the last line ends too.
-fn turn(s: Stage, input: &mut [u8], output: &mut [u8]) -> Stage {
+fn turn(s: Stage, input: &mut [u8], output: &mut [u8]) -> Stage
+    requires { ⌜ s .draft .ended ≡ false ⌝ }
+    ensures { λ r. ⌜ r .draft .ended ≡ false ⌝ }
+{
     let got = libc::read(STDIN_FILENO, input);
     if got < 0 {
         io::write_all(STDERR_FILENO, b"compose: cannot read\n");
@@ -81,7 +102,7 @@ fn turn(s: Stage, input: &mut [u8], output: &mut [u8]) -> Stage {
     if 0 < count {
         return take_all(s, &input[..count], output);
     }
-    let last = take(s, 10, output);
+    let last = take_all(s, b"\n", output);
     let draft = last.draft;
     Stage {
         draft,

@@ -1,4 +1,5 @@
 pub mod Digits
 pub mod Machine
 pub mod Once
+pub mod Taken
 pub mod Writing

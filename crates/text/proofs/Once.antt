@@ -8,7 +8,7 @@ use Rattle.text.specs.declared.compose.Draft.{Draft}
 use Rattle.text.specs.declared.compose.Progress.{Progress}
 use Rattle.text.specs.declared.show.Sheet.{Sheet}
 use Rattle.text.specs.declared.show.Shown.{Shown}
-use Rattle.text.specs.Composed.{Made, made, step, newDraft, readFrom, takenFrom}
+use Rattle.text.specs.Composed.{Made, made, newDraft, readFrom, takenFrom}
 use Rattle.text.specs.Shown.{newSheet, shownOf, shownText, lastText}
 
 -- There is one line at its beginning, and one sheet.
@@ -17,12 +17,6 @@ draft-once a b p q = p ∙ sym q
 
 pub sheet-once : (a b : Sheet) → a ≡ newSheet → b ≡ newSheet → a ≡ b
 sheet-once a b p q = p ∙ sym q
-
--- Of the same line, byte and buffer there is one line, and one buffer afterwards.
-pub step-once : (d : Draft) (byte : ℕ) (out : List ℕ) (a b : Draft) (v w : List ℕ) → made a v ≡ step (made d out) byte → made b w ≡ step (made d out) byte → (a ≡ b) × (v ≡ w)
-step-once d byte out a b v w p q =
-    let same = p ∙ sym q in
-    (ap (λ (m : Made). m .draft) same, ap (λ (m : Made). m .out) same)
 
 -- Of the same line, bytes and buffer there is one progress, and one buffer afterwards.
 pub read-once : (d : Draft) (bytes out : List ℕ) (a b : Progress) (v w : List ℕ)

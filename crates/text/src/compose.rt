@@ -524,7 +524,7 @@ fn typed(d: Draft, byte: u8, out: &mut [u8]) -> Draft
 }
 
 // One byte of the text.
-pub fn step(d: Draft, byte: u8, out: &mut [u8]) -> Draft
+fn step(d: Draft, byte: u8, out: &mut [u8]) -> Draft
     ensures { λ r. ⌜ made r (now (out .exit)) ≡ step (made d (now (out .entry))) byte ⌝ }
 {
     if byte == 10 {

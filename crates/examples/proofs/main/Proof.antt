@@ -1,4 +1,4 @@
--- Each pair of arguments is there; the pairs left fall.
+-- Each three arguments are there; the threes left fall.
 use Prim.Native.Nat.{_-_}
 use native.Mathlib.Omega.{arith}
 use Rattle.examples.proofs.main.Statement.{statement}
@@ -28,6 +28,12 @@ mul-check-at-2 c = omega (arith, c .loop-test .taken, c .before .before .arg-cou
 add-check-at-2 : tie.Need-add-check-at-2 Inv-loop μ-loop
 add-check-at-2 c = omega (arith, c .loop-test .taken, c .before .before .arg-count .ok)
 
+mul-check-at-3 : tie.Need-mul-check-at-3 Inv-loop μ-loop
+mul-check-at-3 c = omega (arith, c .loop-test .taken, c .before .before .arg-count .ok)
+
+add-check-at-3 : tie.Need-add-check-at-3 Inv-loop μ-loop
+add-check-at-3 c = omega (arith, c .loop-test .taken, c .before .before .arg-count .ok)
+
 check-at-requires : tie.Need-check-at-requires Inv-loop μ-loop
 check-at-requires c κs = tt
 
@@ -55,6 +61,8 @@ main-spec =
     add-check-at
     mul-check-at-2
     add-check-at-2
+    mul-check-at-3
+    add-check-at-3
     check-at-requires
     add-i
     loop-less
