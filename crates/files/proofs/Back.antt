@@ -4,7 +4,7 @@ use mathlib.Core.Path.{_≡_, refl, sym, _∙_, ap}
 use mathlib.Core.Bool.{true, false, cond, false≢true}
 use mathlib.Core.List.{List, [], _∷_, _++_, append-assoc, append-nil}
 use native.Mathlib.Omega.{arith}
-use borrow.Author.Tests.{le-leb, leb-true, eqb-true}
+use borrow.Author.Tests.{le-leb, leb-true, eq-eqb, eqb-true}
 use lib.Dec.{leb, eqb}
 use lib.ListN.{length, take, drop, length-drop, take-append-drop, List·getD-append}
 use lib.Seq.{length-take-le, take-all}
@@ -14,7 +14,7 @@ use Rattle.records.specs.Stream.{takesBearers}
 use Rattle.records.specs.declared.Record.{Record}
 use Rattle.records.proofs.RoundTrip.{in-range, bytes-back, bytes-take, bytes-drop}
 use Rattle.text.specs.declared.show.Sheet.{Sheet}
-use Rattle.text.specs.Composed.{Made, made, newDraft, blankValues, stage, step}
+use Rattle.text.specs.Composed.{Made, made, newDraft, blankValues, takesBearer, stage, step}
 use Rattle.text.specs.Shown.{valuesOf, endText, joins, newSheet, sheetAfter, hasWord, wordsText, rawText, recordText, eventText, restText}
 use Rattle.text.proofs.Digits.{between}
 use Rattle.text.proofs.Machine.{step-gap}
@@ -49,15 +49,16 @@ abbrev owedBy : Record → ℕ
 owedBy r = cond (takesBearers r) (r .number) 0
 
 -- They have room, and they follow only a request with a count.
-owed-facts : (r : Record) → (owedBy r ≤ 256) × (1 ≤ owedBy r → 1 ≤ countOf (bytesOf r))
+owed-facts : (r : Record) → (owedBy r ≤ 256) × (1 ≤ owedBy r → 1 ≤ countOf (bytesOf r)) × (1 ≤ owedBy r → eqb (r .kind) 1 ≡ true)
 owed-facts r =
     by-cases (takesBearers r)
     (λ t.
-    let some = between 1 256 (r .number) (both-true (eqb (r .kind) 1) _ t .1) in
+    let both = both-true (eqb (r .kind) 1) _ t in
+    let some = between 1 256 (r .number) (both .1) in
     let high : r .number / 256 % 256 ≡ r .number / 256 = omega arith in
     let low : 1 ≤ r .number % 256 + r .number / 256 = omega arith in
-    rw t (some .1, λ h. omega arith))
-    (λ t. rw t (omega arith, λ h. omega arith))
+    rw t (some .1, λ h. omega arith, λ h. both .0))
+    (λ t. rw t (omega arith, λ h. omega arith, λ h. absurd (omega arith)))
 
 -- None follows a record of a kind without a word.
 owed-none : (r : Record) → hasWord (r .kind) ≡ false → owedBy r ≡ 0
@@ -105,9 +106,9 @@ rest-back rest h size out room =
 
 -- After a record's words a line is open that gives the record too.
 spoken-on : (text : List ℕ) (m : Made) (r : Record) (owed g s : ℕ) (out before : List ℕ) → InRange r → Holds s out before → s + 32 + 32 * owed ≤ 8224
-    → (1 ≤ s + owed → 1 ≤ countOf (before ++ bytesOf r)) → Reads text m (resting (valuesOf r) g 1 s out)
+    → (1 ≤ s + owed → 1 ≤ countOf (before ++ bytesOf r)) → (1 ≤ owed → takesBearer (resting (valuesOf r) g 1 s out .draft) ≡ true) → Reads text m (resting (valuesOf r) g 1 s out)
     → Onward text m record { owed = owed; begun = true } (before ++ bytesOf r)
-spoken-on text m r owed g s out before h held room counts read =
+spoken-on text m r owed g s out before h held room counts takes read =
     let spoken : Spoken owed (read .end) (before ++ bytesOf r) =
     record {
       staged = s;
@@ -122,6 +123,7 @@ spoken-on text m r owed g s out before h held room counts read =
       whole = refl;
       room = room;
       counts = counts;
+      takes = takes;
     }
     in
     record {
@@ -138,9 +140,9 @@ words-line : (r : Record) → InRange r → hasWord (r .kind) ≡ true → (out 
     → Onward (wordsText r) (made newDraft out) record { owed = owedBy r; begun = true } (bytesOf r)
 unfolding stage
 words-line r h t out room =
-    let read = record-read r h (between 1 17 (r .kind) t .1) (blankValues 0) 15 0 0 0 out out (omega arith) (λ w. refl) in
+    let read = record-read r h (between 1 17 (r .kind) t .1) (blankValues 0) 15 0 0 0 out out (omega arith) refl (λ w. refl) in
     let facts = owed-facts r in
-    spoken-on (wordsText r) (made newDraft out) r (owedBy r) (read .0) 0 out [] h (holds-none out room) (omega (arith, facts .0)) (λ l. facts .1 (omega arith)) (read .1)
+    spoken-on (wordsText r) (made newDraft out) r (owedBy r) (read .0) 0 out [] h (holds-none out room) (omega (arith, facts .0)) (λ l. facts .1 (omega arith)) (facts .2) (read .1)
 
 -- A bearer joins the line of its request.
 joined : (r : Record) → InRange r → r .kind ≡ 16 → {owed : ℕ} {m : Made} {line : List ℕ} → 1 ≤ owed → Spoken owed m line
@@ -149,10 +151,10 @@ joined r h kind {owed} {m} {line} some s =
     let last = s .last in
     let then = writtenAt last (s .out) (s .staged) in
     let gap : resting (valuesOf last) (s .field) 1 (s .staged) (s .out) ≡ step m 32 = step-gap m 32 _ (λ e. omega arith) (s .reading) (λ e. omega arith) refl (sym (s .settled)) in
-    let read = record-read r h (omega arith) (valuesOf last) (s .field) 1 (s .staged) (s .staged + 32) (s .out) then (omega arith) (λ w. written last (s .range) (s .staged) (s .field) w (s .out) (s .before) (s .holds) (omega arith)) in
+    let read = record-read r h (omega arith) (valuesOf last) (s .field) 1 (s .staged) (s .staged + 32) (s .out) then (omega arith) (rw (eq-eqb (r .kind) 16 kind) (s .takes some)) (λ w. written last (s .range) (s .staged) (s .field) w (s .out) (s .before) (s .holds) (omega arith)) in
     let held : Holds (s .staged + 32) then line = rw (sym (s .whole)) (holds-record (s .holds) last (omega arith)) in
     let counts : 1 ≤ countOf (line ++ bytesOf r) = rw (count-kept line (bytesOf r) (omega (arith, holds-length held))) (s .counts (omega arith)) in
-    spoken-on ((32 ∷ []) ++ wordsText r) m r (owed - 1) (read .0) (s .staged + 32) then line h held (omega arith) (λ l. counts)
+    spoken-on ((32 ∷ []) ++ wordsText r) m r (owed - 1) (read .0) (s .staged + 32) then line h held (omega arith) (λ l. counts) (λ l. rw (le-leb 1 (s .staged + 32) (omega arith)))
     record {
       end = read .1 .end;
       leads = leads-on (32 ∷ []) (wordsText r) m _ _ (leads-to m _ 32 gap refl) (read .1 .leads);

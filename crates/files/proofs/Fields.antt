@@ -1,7 +1,7 @@
 -- Records: the words of a record read back to its fields.
 use Prim.Native.Nat.{ℕ, zero, suc, _+_, _%_, _^_, _≤_, _<_}
 use mathlib.Core.Path.{_≡_, refl, sym, _∙_}
-use mathlib.Core.Bool.{cond, _&&_}
+use mathlib.Core.Bool.{true, cond, _&&_}
 use mathlib.Core.List.{List, [], _∷_, _++_, append-assoc}
 use native.Mathlib.Omega.{arith}
 use borrow.Author.Tests.{ltb-true, eqb-true}
@@ -15,7 +15,7 @@ use Rattle.records.specs.declared.Record.{Record}
 use Rattle.text.specs.declared.compose.Word.{Word}
 use Rattle.text.specs.Words.{wordAt}
 use Rattle.text.specs.Shown.{spacedWord, valuesOf, fieldWord, valueText, fieldText, fieldsText, wordsText}
-use Rattle.text.specs.Composed.{isSet, limits, fields, nextField, Made, stage}
+use Rattle.text.specs.Composed.{isSet, limits, fields, nextField, mayBegin, Made, stage}
 use Rattle.files.proofs.Leading.{at, resting, Reads}
 use Rattle.files.proofs.Typing.{Adds, adds-none, adds-on, adds-word, allBelow, below, kind-read, field-read, number-read}
 use Rattle.files.proofs.Members.{ids-read}
@@ -113,12 +113,13 @@ in-range : (r : Record) → InRange r → Within 1 (drop 1 (valuesOf r))
 unfolding Within
 in-range r range = (omega arith, (omega arith, (omega arith, (omega arith, (omega arith, (omega arith, (omega arith, (omega arith, (omega arith, (omega arith, (omega arith, (omega arith, (omega arith, (omega arith, tt))))))))))))))
 
--- The words of a record make its fields, once what was filled before is written.
+-- The words of a record make its fields where it may begin, once what was filled before is written.
 pub record-read : (r : Record) → InRange r → r .kind ≤ 17
     → (values : List ℕ) (field mode staged after : ℕ) (out then : List ℕ) → mode ≤ 1
+    → mayBegin (resting values field mode staged out .draft) (r .kind) ≡ true
     → ((w : Word) → stage (at values field mode staged w out) ≡ at values field mode after w then)
     → (g : ℕ) × Reads (wordsText r) (resting values field mode staged out) (resting (valuesOf r) g 1 after then)
-record-read r range known values field mode staged after out then words stages =
-    let kind = kind-read values field mode staged out words (r .kind) after then known stages in
+record-read r range known values field mode staged after out then words may stages =
+    let kind = kind-read values field mode staged out words (r .kind) after then known may stages in
     let rest = all-fields (r .kind) after then (drop 1 (valuesOf r)) (r .kind ∷ []) 1 (getD fields (r .kind) 0) refl (omega arith) refl (in-range r range) in
     (rest .0, rest .1 (wordAt (r .kind)) (resting values field mode staged out) kind)

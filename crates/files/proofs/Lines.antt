@@ -12,7 +12,7 @@ use Rattle.records.specs.Record.{bytesOf, writtenAt, InRange}
 use Rattle.records.specs.declared.Record.{Record}
 use Rattle.text.specs.declared.compose.Word.{Word}
 use Rattle.text.specs.declared.compose.Draft.{Draft}
-use Rattle.text.specs.Composed.{Made, made, newDraft, emptyWord, lacksCount, finished, stage, settle, counted, close, step}
+use Rattle.text.specs.Composed.{Made, made, newDraft, emptyWord, takesBearer, lacksCount, finished, stage, settle, counted, close, step}
 use Rattle.text.specs.Shown.{valuesOf}
 use Rattle.text.proofs.Machine.{lacks, close-on, step-end}
 use Rattle.files.specs.Files.{composedFrom}
@@ -37,6 +37,7 @@ pub record Spoken (owed : ℕ) (m : Made) (line : List ℕ) : Type 0 where
   pub whole : before ++ bytesOf last ≡ line
   pub room : staged + 32 + 32 * owed ≤ 8224
   pub counts : 1 ≤ staged + owed → 1 ≤ countOf line
+  pub takes : 1 ≤ owed → takesBearer (resting (valuesOf last) field 1 staged out .draft) ≡ true
 
 -- a text after which a line gives these bytes, and another begins
 pub record Ends (text : List ℕ) (m : Made) (line : List ℕ) : Type 0 where

@@ -11,7 +11,7 @@ use lib.ListN.{length, set, length-set}
 use lib.Seq.{sets}
 use Rattle.laws.proofs.Tests.{by-cases}
 use Rattle.records.specs.Record.{AreBytes}
-use Rattle.text.specs.Composed.{emptyWord, pushed, nibble, hexValue, hex, stage, rawBegun, understood, settle, typed, step}
+use Rattle.text.specs.Composed.{emptyWord, pushed, nibble, hexValue, hex, understood, settle, typed, step}
 use Rattle.text.specs.Shown.{hexDigit, bytesText, rawText}
 use Rattle.text.specs.Words.{wordAt, trimmed, isSame, placeIn}
 use Rattle.text.proofs.Machine.{hex-on, typed-on, typed-pair, step-typed}
@@ -74,7 +74,7 @@ bytes-read (b ∷ bytes) h v f s out room = λ rest.
 
 -- The word before them makes a new line one of bytes.
 raw-word : (v out : List ℕ) (f : ℕ) → Leads (wordAt 36 ++ (32 ∷ [])) (resting v f 0 0 out) (resting v 15 2 0 out)
-unfolding composedFrom step typed settle understood stage rawBegun wordAt trimmed isSame placeIn
+unfolding composedFrom step typed settle understood wordAt trimmed isSame placeIn
 raw-word v out f rest = refl
 
 -- A new line takes the bytes of such a text to the front of the buffer.

@@ -11,7 +11,7 @@ use Rattle.laws.proofs.Tests.{both-true, by-cases, on-true}
 use Rattle.lines.specs.Text.{sizeIn, size, digits}
 use Rattle.text.specs.declared.compose.Word.{Word}
 use Rattle.text.specs.Words.{isSame, placeIn, placeOf, trimmed, wordAt}
-use Rattle.text.specs.Composed.{isGap, takesDigit, longer, emptyWord, pushed, blankValues, limits, fields, added, nextField, put, begun, chosen, Made, stage, understood, settle, step}
+use Rattle.text.specs.Composed.{isGap, takesDigit, longer, emptyWord, pushed, blankValues, limits, fields, added, nextField, put, begun, chosen, mayBegin, Made, stage, understood, settle, step}
 use Rattle.text.proofs.Machine.{a-kind, a-field, settle-number, settle-word, typed-on, step-gap, step-typed}
 use Rattle.files.proofs.Leading.{at, resting, Leads, leads-on, leads-to, no-gap, Reads}
 
@@ -207,14 +207,14 @@ module _ (values : List ℕ) (field mode staged : ℕ) (out : List ℕ) where
         (eqb-true k (placeOf (w .text)) (all .1))
         e)
 
-    -- A kind's word begins a record, where what was filled before it is written.
-    pub kind-read : (k after : ℕ) (left : List ℕ) → k ≤ 17 → ((w : Word) → stage (line w) ≡ at values field mode after w left)
+    -- A kind's word begins a record where it may, and what was filled before it is written.
+    pub kind-read : (k after : ℕ) (left : List ℕ) → k ≤ 17 → mayBegin (line emptyWord .draft) k ≡ true → ((w : Word) → stage (line w) ≡ at values field mode after w left)
         → Reads (wordAt k) (line emptyWord) (resting (blankValues k) (getD fields k 0) 1 after left)
     unfolding begun
-    kind-read k after left h s =
+    kind-read k after left h may s =
         let next = resting (blankValues k) (getD fields k 0) 1 after left in
         word-read k (omega arith) next
-        (a-kind (line (wordOf k)) k (at values field mode after (wordOf k) left .draft) (next .draft) left h (sym (s (wordOf k))) (rw (ne-eqb mode 5 (λ e. omega arith))))
+        (a-kind (line (wordOf k)) k (at values field mode after (wordOf k) left .draft) (next .draft) left h may (sym (s (wordOf k))) (rw (ne-eqb mode 5 (λ e. omega arith))))
 
     -- A number goes to the field that takes it.
     pub number-read : (n : ℕ) → n < 2 ^ 64 → field ≤ 14 → n ≤ getD limits field 0

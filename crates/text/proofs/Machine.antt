@@ -11,14 +11,18 @@ use lib.ListN.{length, getD, drop, drop-of-length-le, set}
 use lib.Seq.{drop-cons}
 use Rattle.laws.proofs.Tests.{both-true, by-cases, on-true, on-false}
 use Rattle.text.specs.declared.compose.Draft.{Draft}
-use Rattle.text.specs.Composed.{hexValue, tooLong, appended, Made, made, onDraft, begun, chosen, put, rawBegun, wrong, pushed, withWord, isPair, isGap, lacksCount, counted, stage, hex, understood, settle, close, commented, finished, typed, step, readFrom, takenFrom}
+use Rattle.text.specs.Composed.{hexValue, tooLong, appended, mayBegin, Made, made, onDraft, begun, chosen, put, rawBegun, wrong, pushed, withWord, isPair, isGap, lacksCount, counted, stage, hex, understood, settle, close, commented, finished, typed, step, readFrom, takenFrom}
 use Rattle.text.specs.Words.{placeOf}
 
 -- a word of the table
 module _ (m : Made) (k : ℕ) where
-  pub a-kind : (d e : Draft) (left : List ℕ) → k ≤ 17 → made d left ≡ stage m → e ≡ begun d k → made e left ≡ understood m k
+  pub a-kind : (d e : Draft) (left : List ℕ) → k ≤ 17 → mayBegin (m .draft) k ≡ true → made d left ≡ stage m → e ≡ begun d k → made e left ≡ understood m k
   unfolding understood
-  a-kind d e left h s b = rw (le-leb k 17 h, b) (ap (onDraft (λ x. begun x k)) s)
+  a-kind d e left h t s b = rw (le-leb k 17 h, b) (ap (onDraft (λ x. begun x k)) s ∙ sym (on-true (mayBegin (m .draft) k) _ _ t))
+
+  pub no-kind : (e : Draft) → k ≤ 17 → mayBegin (m .draft) k ≡ false → e ≡ wrong (m .draft) → made e (m .out) ≡ understood m k
+  unfolding understood
+  no-kind e h t b = rw (le-leb k 17 h, b) (sym (on-false (mayBegin (m .draft) k) _ _ t))
 
   pub a-field : (e : Draft) → 17 < k → k ≤ 34 → e ≡ chosen (m .draft) k → made e (m .out) ≡ understood m k
   unfolding understood
@@ -28,13 +32,13 @@ module _ (m : Made) (k : ℕ) where
   unfolding understood
   an-absent e g h b = rw (lt-leb k 17 (omega arith), lt-leb k 34 g, eq-eqb k 35 h, b)
 
-  pub a-raw : (d e : Draft) (left : List ℕ) → 34 < k → k ≡ 36 → made d left ≡ stage m → e ≡ rawBegun d → made e left ≡ understood m k
+  pub a-raw : (e : Draft) → 34 < k → (k ≡ 35 → ⊥) → (eqb k 36 && eqb (m .draft .mode) 0) ≡ true → e ≡ rawBegun (m .draft) → made e (m .out) ≡ understood m k
   unfolding understood
-  a-raw d e left g h s b = rw (lt-leb k 17 (omega arith), lt-leb k 34 g, ne-eqb k 35 (λ n. omega arith), eq-eqb k 36 h, b) (ap (onDraft rawBegun) s)
+  a-raw e g h t b = rw (lt-leb k 17 (omega arith), lt-leb k 34 g, ne-eqb k 35 h, b) (sym (on-true (eqb k 36 && eqb (m .draft .mode) 0) _ _ t))
 
-  pub no-word : (e : Draft) → 34 < k → (k ≡ 35 → ⊥) → (k ≡ 36 → ⊥) → e ≡ wrong (m .draft) → made e (m .out) ≡ understood m k
+  pub no-word : (e : Draft) → 34 < k → (k ≡ 35 → ⊥) → (eqb k 36 && eqb (m .draft .mode) 0) ≡ false → e ≡ wrong (m .draft) → made e (m .out) ≡ understood m k
   unfolding understood
-  no-word e g h i b = rw (lt-leb k 17 (omega arith), lt-leb k 34 g, ne-eqb k 35 h, ne-eqb k 36 i, b)
+  no-word e g h t b = rw (lt-leb k 17 (omega arith), lt-leb k 34 g, ne-eqb k 35 h, b) (sym (on-false (eqb k 36 && eqb (m .draft .mode) 0) _ _ t))
 
 -- a word that has ended
 module _ (m : Made) where

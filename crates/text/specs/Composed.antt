@@ -143,10 +143,8 @@ chosen d word =
     (wrong d)
 
 -- bytes follow
-unfoldable pub rawBegun : Draft → Draft
-rawBegun d =
-    cond (eqb (d .mode) 5) d
-    record { values = d .values; field = 15; mode = 2; staged = d .staged; word = emptyWord; ended = d .ended }
+abbrev pub rawBegun : Draft → Draft
+rawBegun d = record { values = d .values; field = 15; mode = 2; staged = d .staged; word = emptyWord; ended = d .ended }
 
 -- what a hexadecimal digit stands for; 16 for any other byte
 unfoldable pub nibble : ℕ → ℕ
@@ -200,13 +198,24 @@ hex m =
     (cond (leb (length (m .out)) (d .staged)) (onDraft tooLong m) (made (appended d) (set (m .out) (d .staged) value)))
     (onDraft wrong m)
 
--- what a word of the table does: a kind begins a record, a field takes the next number, an absent New ID is 65,535, and bytes follow
--- the word `raw`; any other word is not understood
+-- "a request with its bearers on one line": whether a bearer may follow the record that is being filled, which is a request, or stands
+-- behind other records as only a request's bearers do
+abbrev pub takesBearer : Draft → Bool
+takesBearer d = leb 1 (d .staged) || eqb (getD (d .values) 0 0) 1
+
+-- "one event a line": a kind's word begins the line, or a bearer of its request
+abbrev pub mayBegin : Draft → ℕ → Bool
+mayBegin d word = eqb (d .mode) 0 || eqb (d .mode) 1 && eqb word 16 && takesBearer d
+
+-- what a word of the table does: a kind begins a record where it may, a field takes the next number, an absent New ID is 65,535, and
+-- bytes follow the word `raw` where it is the line's first; any other word is not understood
 unfoldable pub understood : Made → ℕ → Made
 understood m word =
-    cond (leb word 17) (onDraft (λ d. begun d word) (stage m))
-    (cond (leb word 34) (onDraft (λ d. chosen d word) m)
-    (cond (eqb word 35) (onDraft (λ d. put d 65535) m) (cond (eqb word 36) (onDraft rawBegun (stage m)) (onDraft wrong m))))
+    let d = m .draft in
+    cond (leb word 17) (cond (mayBegin d word) (onDraft (λ e. begun e word) (stage m)) (onDraft wrong m))
+    (cond (leb word 34) (onDraft (λ e. chosen e word) m)
+    (cond (eqb word 35) (onDraft (λ e. put e 65535) m)
+    (cond (eqb word 36 && eqb (d .mode) 0) (onDraft rawBegun m) (onDraft wrong m))))
 
 -- a word has ended
 unfoldable pub settle : Made → Made

@@ -7,7 +7,7 @@ use records::Record;
 ghost use mathlib.Core.Path.{_≡_};
 ghost use Prim.Native.Nat.{_+_, _≤_, _<_};
 ghost use lib.ListN.{set};
-ghost use Rattle.text.specs.Composed.{isGap, isSet, takesDigit, grown, longer, emptyWord, pushed, recordFrom, added, nextField, wrong, tooLong, put, begun, chosen, rawBegun, nibble, hexValue, appended, withWord, isPair, commented, finished, made, stage, hex, understood, settle, lacksCount, counted, close, typed, step, newDraft, readFrom, takenFrom};
+ghost use Rattle.text.specs.Composed.{isGap, isSet, takesDigit, grown, longer, emptyWord, pushed, recordFrom, added, nextField, wrong, tooLong, put, begun, chosen, rawBegun, nibble, hexValue, appended, takesBearer, mayBegin, withWord, isPair, commented, finished, made, stage, hex, understood, settle, lacksCount, counted, close, typed, step, newDraft, readFrom, takenFrom};
 
 // What a number in a field may be: for a set, an ID.
 const LIMITS: [u64; 15] = [
@@ -296,9 +296,6 @@ fn chosen(d: Draft, word: usize) -> Draft
 fn raw_begun(d: Draft) -> Draft
     ensures { λ r. ⌜ r ≡ rawBegun d ⌝ }
 {
-    if d.mode == 5 {
-        return d;
-    }
     let values = d.values;
     Draft {
         values,
@@ -391,11 +388,29 @@ fn hex(d: Draft, out: &mut [u8]) -> Draft
     appended(d)
 }
 
+// Whether a bearer may follow on this line: it is a request's.
+fn takes_bearer(d: Draft) -> bool
+    ensures { λ r. ⌜ r ≡ takesBearer d ⌝ }
+{
+    let values = d.values;
+    (1 <= d.staged) | (values[0] == 1)
+}
+
+// Whether a kind's word begins a record here: it is the line's first, or a bearer of the line's request.
+fn may_begin(d: Draft, word: usize) -> bool
+    ensures { λ r. ⌜ r ≡ mayBegin d word ⌝ }
+{
+    (d.mode == 0) | ((d.mode == 1) & (word == 16) & takes_bearer(d))
+}
+
 // What a word of the table does.
 fn understood(d: Draft, word: usize, out: &mut [u8]) -> Draft
     ensures { λ r. ⌜ made r (now (out .exit)) ≡ understood (made d (now (out .entry))) word ⌝ }
 {
     if word <= 17 {
+        if !may_begin(d, word) {
+            return wrong(d);
+        }
         return begun(stage(d, out), word);
     }
     if word <= 34 {
@@ -404,8 +419,8 @@ fn understood(d: Draft, word: usize, out: &mut [u8]) -> Draft
     if word == 35 {
         return put(d, 65535);
     }
-    if word == 36 {
-        return raw_begun(stage(d, out));
+    if (word == 36) & (d.mode == 0) {
+        return raw_begun(d);
     }
     wrong(d)
 }
@@ -428,7 +443,7 @@ fn settle(d: Draft, out: &mut [u8]) -> Draft
     understood(d, place_of(text), out)
 }
 
-// Whether the records of a line begin with a request that has no count, and more follow it.
+// Whether the records of a line are a request that has no count, and its bearers.
 fn lacks_count(d: Draft, out: &[u8]) -> bool
     ensures { λ r. ⌜ r ≡ lacksCount d (now (out .entry)) ⌝ }
 {
@@ -444,7 +459,7 @@ fn lacks_count(d: Draft, out: &[u8]) -> bool
         & (out[15] == 0)
 }
 
-// A request without a count gets the number of records that follow it on its line.
+// A request without a count gets the number of its line's bearers.
 fn counted(d: Draft, out: &mut [u8]) -> Draft
     ensures { λ r. ⌜ made r (now (out .exit)) ≡ counted (made d (now (out .entry))) ⌝ }
 {

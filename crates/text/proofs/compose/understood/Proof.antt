@@ -1,8 +1,19 @@
+use mathlib.Core.Path.{sym, _∙_}
+use borrow.Author.Tests.{not-true, not-false}
 use Rattle.text.specs.Composed.{made}
-use Rattle.text.proofs.Machine.{a-kind, a-field, an-absent, a-raw, no-word}
+use Rattle.text.proofs.Machine.{a-kind, no-kind, a-field, an-absent, a-raw, no-word}
 use borrow.Author.Needs.{needs}
 use Rattle.text.proofs.compose.understood.Statement.{statement}
 use Rattle.text.proofs.compose.understood.Tie as tie
+
+may-begin-requires : tie.Need-may-begin-requires
+may-begin-requires c κs = search needs
+
+wrong-requires : tie.Need-wrong-requires
+wrong-requires c κs = search needs
+
+returns : tie.Need-returns
+returns c = no-kind (made (c .before .before .before .before .before .args .d) (c .before .before .before .before .before .args .out .now)) (c .before .before .before .before .before .args .word) _ (c .before .before .before .if1 .taken) (sym (c .before .before .may-begin .ensures) ∙ not-true _ (c .before .if2 .taken)) (c .wrong .ensures)
 
 stage-requires : tie.Need-stage-requires
 stage-requires c κs = search needs
@@ -13,54 +24,49 @@ begun-requires c κs = search needs
 same-length : tie.Need-same-length
 same-length c = search needs
 
-returns : tie.Need-returns
-returns c = a-kind (made (c .before .before .before .before .before .before .before .args .d) (c .before .before .before .before .before .before .before .args .out .now)) (c .before .before .before .before .before .before .before .args .word) _ _ _ (c .before .before .before .before .before .if1 .taken) (c .before .before .before .stage .ensures) (c .begun .ensures)
+returns-2 : tie.Need-returns-2
+returns-2 c = a-kind (made (c .before .before .before .before .before .before .before .before .before .args .d) (c .before .before .before .before .before .before .before .before .before .args .out .now)) (c .before .before .before .before .before .before .before .before .before .args .word) _ _ _ (c .before .before .before .before .before .before .before .if1 .taken) (sym (c .before .before .before .before .before .before .may-begin .ensures) ∙ not-false _ (c .before .before .before .before .before .if2 .left)) (c .before .before .before .stage .ensures) (c .begun .ensures)
 
 chosen-requires : tie.Need-chosen-requires
 chosen-requires c κs = search needs
 
-returns-2 : tie.Need-returns-2
-returns-2 c = a-field (made (c .before .before .before .before .args .d) (c .before .before .before .before .args .out .now)) (c .before .before .before .before .args .word) _ (c .before .before .if1 .left) (c .before .if2 .taken) (c .chosen .ensures)
+returns-3 : tie.Need-returns-3
+returns-3 c = a-field (made (c .before .before .before .before .args .d) (c .before .before .before .before .args .out .now)) (c .before .before .before .before .args .word) _ (c .before .before .if1 .left) (c .before .if3 .taken) (c .chosen .ensures)
 
 put-requires : tie.Need-put-requires
 put-requires c κs = search needs
 
-returns-3 : tie.Need-returns-3
-returns-3 c = an-absent (made (c .before .before .before .before .before .args .d) (c .before .before .before .before .before .args .out .now)) (c .before .before .before .before .before .args .word) _ (c .before .before .if2 .left) (c .before .if3 .taken) (c .put .ensures)
-
-stage-requires-2 : tie.Need-stage-requires-2
-stage-requires-2 c κs = search needs
+returns-4 : tie.Need-returns-4
+returns-4 c = an-absent (made (c .before .before .before .before .before .args .d) (c .before .before .before .before .before .args .out .now)) (c .before .before .before .before .before .args .word) _ (c .before .before .if3 .left) (c .before .if4 .taken) (c .put .ensures)
 
 raw-begun-requires : tie.Need-raw-begun-requires
 raw-begun-requires c κs = search needs
 
-same-length-2 : tie.Need-same-length-2
-same-length-2 c = search needs
-
-returns-4 : tie.Need-returns-4
-returns-4 c = a-raw (made (c .before .before .before .before .before .before .before .before .before .before .args .d) (c .before .before .before .before .before .before .before .before .before .before .args .out .now)) (c .before .before .before .before .before .before .before .before .before .before .args .word) _ _ _ (c .before .before .before .before .before .before .before .if2 .left) (c .before .before .before .before .before .if4 .taken) (c .before .before .before .stage2 .ensures) (c .raw-begun .ensures)
-
-wrong-requires : tie.Need-wrong-requires
-wrong-requires c κs = search needs
-
 returns-5 : tie.Need-returns-5
-returns-5 c = no-word (made (c .before .before .before .before .before .before .args .d) (c .before .before .before .before .before .before .args .out .now)) (c .before .before .before .before .before .before .args .word) _ (c .before .before .before .if2 .left) (c .before .before .if3 .left) (c .before .if4 .left) (c .wrong .ensures)
+returns-5 c = a-raw (made (c .before .before .before .before .before .before .before .args .d) (c .before .before .before .before .before .before .before .args .out .now)) (c .before .before .before .before .before .before .before .args .word) _ (c .before .before .before .before .if3 .left) (c .before .before .before .if4 .left) (c .before .if5 .taken) (c .raw-begun .ensures)
+
+wrong-requires-2 : tie.Need-wrong-requires-2
+wrong-requires-2 c κs = search needs
+
+returns-6 : tie.Need-returns-6
+returns-6 c = no-word (made (c .before .before .before .before .before .before .before .args .d) (c .before .before .before .before .before .before .before .args .out .now)) (c .before .before .before .before .before .before .before .args .word) _ (c .before .before .before .before .if3 .left) (c .before .before .before .if4 .left) (c .before .if5 .left) (c .wrong2 .ensures)
 
 pub understood-spec : {M : Type 1} → statement M
 understood-spec =
     tie.close
     (tie.spec
+    may-begin-requires
+    wrong-requires
+    returns
     stage-requires
     begun-requires
     same-length
-    returns
-    chosen-requires
     returns-2
-    put-requires
+    chosen-requires
     returns-3
-    stage-requires-2
-    raw-begun-requires
-    same-length-2
+    put-requires
     returns-4
-    wrong-requires
-    returns-5)
+    raw-begun-requires
+    returns-5
+    wrong-requires-2
+    returns-6)
