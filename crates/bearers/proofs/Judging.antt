@@ -1,6 +1,6 @@
 -- What the code leaves is what admission says: the admitted set, and each verdict by it.
 use Prim.Native.Nat.{ℕ, _-_, _≤_, _<_}
-use mathlib.Core.Path.{_≡_, _∙_, sym, ap, ap₂, subst}
+use mathlib.Core.Path.{_≡_, _∙_, sym, ap, ap₂}
 use mathlib.Core.Bool.{Bool, true, not}
 use mathlib.Core.List.{List, [], _∷_, _++_, map}
 use borrow.Author.Tests.{le-leb, lt-ltb}
@@ -18,9 +18,9 @@ use Rattle.bearers.specs.Bearer.{isBearer, bearerOf, allBearers}
 use Rattle.bearers.specs.Working.{alone, Surveyed, firstsOf, clear, run, sorted, settledBy, refusedBy, written}
 use Rattle.bearers.proofs.Admitted.{granted-ids, verdict-member}
 use Rattle.bearers.proofs.Firsts.{same-ids}
-use Rattle.bearers.proofs.Granted.{Formed, units, grants, granted, run-granted, granted-total, turn-once}
+use Rattle.bearers.proofs.Granted.{units, grants, granted, run-granted, granted-total, turn-once}
 use Rattle.bearers.proofs.Laws.{priority-first}
-use Rattle.bearers.proofs.Listing.{formed}
+use Rattle.bearers.proofs.Listing.{Formed, formed}
 use Rattle.bearers.proofs.Sums.{Each, each-split, each-place, each-at, each-here, each-map, map-each, those-each, those-wider}
 use Rattle.bearers.proofs.Writing.{written-all}
 
@@ -33,6 +33,10 @@ each-formed (r ∷ rs) t =
     (formed r (both .0), each-formed rs (both .1))
 
 module _ (free : ℕ) (bs : List Bearer) (each : Each Formed bs) (s : Survey) (known : Surveyed bs s) where
+  -- the admitted set
+  abbrev set : ℕ
+  set = idsOf (admitted release8 free bs)
+
   -- The scratch table's turns, sorted, are those of the request.
   turns-known : sorted (those (clear s) (firstsOf s)) ≡ turns release8 bs
   turns-known = ap sorted (those-each (clear s) test (firstsOf s) first ∙ sym (of-only (firstsOf s)) ∙ ap (those test) (known .only) ∙ of-only bs) ∙ sym (priority-first release8 free bs each)
@@ -50,11 +54,11 @@ module _ (free : ℕ) (bs : List Bearer) (each : Each Formed bs) (s : Survey) (k
           rw (known .counted (getD (firstsOf s) j d .id) small))
 
   -- The verdict by the table and the admitted set is the verdict.
-  settled-each : Each (λ b. settledBy s (idsOf (admitted release8 free bs)) b ≡ verdict release8 free bs b) bs
+  settled-each : Each (λ b. settledBy s set b ≡ verdict release8 free bs b) bs
   settled-each =
       each-split _ bs
       (λ before b later e.
-      let formed : Formed b = each-here Formed before b later (subst (Each Formed) e each) in
+      let formed : Formed b = each-here Formed before b later e each in
       rw (known .counted (b .id) (formed .0)) (sym (verdict-member release8 free bs each before b later e)))
 
   -- A bearer whose ID occurs more than once has verdict 1.
@@ -62,14 +66,11 @@ module _ (free : ℕ) (bs : List Bearer) (each : Each Formed bs) (s : Survey) (k
   settled-repeated set b small more = rw (known .counted (b .id) small, lt-ltb 1 (occurs (b .id) bs) more)
 
   -- So a buffer of ones has all verdicts once those of the first bearers are written.
-  pub settled-verdicts : (buffer : List ℕ) → length bs ≤ length buffer → written (settledBy s (idsOf (admitted release8 free bs))) (s .places) (firstsOf s) (replicate (length bs) 1 ++ drop (length bs) buffer) ≡ map (verdict release8 free bs) bs ++ drop (length bs) buffer
+  pub settled-verdicts : (buffer : List ℕ) → length bs ≤ length buffer → written (settledBy s set) (s .places) (firstsOf s) (replicate (length bs) 1 ++ drop (length bs) buffer) ≡ map (verdict release8 free bs) bs ++ drop (length bs) buffer
   settled-verdicts buffer room =
       written-all (settledBy s set) bs (s .places) (firstsOf s) (ones ++ rest) (omega (arith, length-append ones rest, as-many)) (omega (arith, long, known .tidy .few, known .tidy .places)) at others
       ∙ ap₂ _++_ (map-each _ _ bs settled-each) (drop-at ones rest (length bs) as-many)
     where
-      set : ℕ
-      set = idsOf (admitted release8 free bs)
-
       ones : List ℕ
       ones = replicate (length bs) 1
 
@@ -94,14 +95,15 @@ module _ (free : ℕ) (bs : List Bearer) (each : Each Formed bs) (s : Survey) (k
           ∙ sym (settled-repeated set (getD bs i d) (each-at Formed bs each i d h .0) (known .placed .others i d h (λ j inner. none j (omega (arith, long)))))
 
   -- And the IDs that are refused are those of refused first bearers.
-  pub settled-refused : refusedBy s (idsOf (admitted release8 free bs)) (firstsOf s) ≡ idsOf (refused release8 free bs)
+  pub settled-refused : refusedBy s set (firstsOf s) ≡ idsOf (refused release8 free bs)
   settled-refused =
-      same-ids bs s known (λ b. not (eqb (settledBy s (idsOf (admitted release8 free bs)) b) 0)) (λ b small more. rw (settled-repeated (idsOf (admitted release8 free bs)) b small more))
+      let test : Bearer → Bool = λ b. not (eqb (settledBy s set b) 0) in
+      same-ids bs s known test (λ b small more. rw (settled-repeated set b small more))
       ∙ ap idsOf
-      (those-each (λ b. not (eqb (settledBy s (idsOf (admitted release8 free bs)) b) 0)) (λ b. not (eqb (verdict release8 free bs b) 0)) bs
-      (each-map _ _ bs (λ b e. ap (λ (v : ℕ). not (eqb v 0)) e) settled-each))
+      (those-each test (λ b. not (eqb (verdict release8 free bs b) 0)) bs
+      (each-map _ _ bs (λ b. ap (λ (v : ℕ). not (eqb v 0))) settled-each))
 
   -- What the walk through them leaves.
-  pub walk-leaves : run (sorted (those (clear s) (firstsOf s))) (grants 0 free) ≡ grants (idsOf (admitted release8 free bs)) (free - total units (admitted release8 free bs))
+  pub walk-leaves : run (sorted (those (clear s) (firstsOf s))) (grants 0 free) ≡ grants set (free - total units (admitted release8 free bs))
   walk-leaves =
       rw (turns-known, run-granted (turns release8 bs) 0 free, or-zero-l (idsOf (granted (turns release8 bs) free)), granted-ids release8 free bs each, granted-total release8 free bs each units)
