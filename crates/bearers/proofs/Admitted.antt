@@ -43,17 +43,7 @@ ones-ids [] each distinct = ones-none
 ones-ids (b ∷ bs) each distinct =
     ones-add (idsOf bs) (b .id) (each .0) (member-absent (b .id) bs (distinct-first b bs distinct)) ∙ ap suc (ones-ids bs (each .1) (distinct-rest b bs distinct))
 
-module _ (gbr : ℕ → Bool) (free : ℕ) (bs : List Bearer) (each : Each Formed bs) where
-  -- The IDs of who got units are those of who has verdict 0.
-  pub granted-ids : idsOf (granted (turns gbr bs) free) ≡ idsOf (admitted gbr free bs)
-  granted-ids =
-      same-members _ _
-      (λ k. rw (member-ids k (granted (turns gbr bs) free), member-ids k (admitted gbr free bs), granted-total gbr free bs each (once k)))
-
-  -- The admitted bearers get no more than is free.
-  pub admitted-le : total units (admitted gbr free bs) ≤ free
-  admitted-le = omega (arith, granted-le (turns gbr bs) free, granted-total gbr free bs each units)
-
+module _ (gbr : ℕ → Bool) (free : ℕ) (bs : List Bearer) where
   -- Of the bearers with its ID only the bearer itself, where it has a turn, can have verdict 0.
   admitted-once : (before : List Bearer) (b : Bearer) (later : List Bearer) → bs ≡ before ++ b ∷ later → hasTurn gbr bs b ≡ true → occurs (b .id) (admitted gbr free bs) ≡ cond (fits (turns gbr bs) free b) 1 0
   unfolding total
@@ -74,11 +64,22 @@ module _ (gbr : ℕ → Bool) (free : ℕ) (bs : List Bearer) (each : Each Forme
         total-le counted (once (b .id)) later le,
       )
 
+module _ (gbr : ℕ → Bool) (free : ℕ) (bs : List Bearer) (each : Each Formed bs) where
+  -- The IDs of who got units are those of who has verdict 0.
+  pub granted-ids : idsOf (granted (turns gbr bs) free) ≡ idsOf (admitted gbr free bs)
+  granted-ids =
+      same-members _ _
+      (λ k. rw (member-ids k (granted (turns gbr bs) free), member-ids k (admitted gbr free bs), granted-total gbr free bs each (once k)))
+
+  -- The admitted bearers get no more than is free.
+  pub admitted-le : total units (admitted gbr free bs) ≤ free
+  admitted-le = omega (arith, granted-le (turns gbr bs) free, granted-total gbr free bs each units)
+
   -- A bearer that has a turn is in the admitted set exactly if it fits.
   admitted-fits : (before : List Bearer) (b : Bearer) (later : List Bearer) → bs ≡ before ++ b ∷ later → hasTurn gbr bs b ≡ true → member (idsOf (admitted gbr free bs)) (b .id) ≡ fits (turns gbr bs) free b
   admitted-fits before b later e t =
       let formed : Formed b = each-here Formed before b later e each in
-      rw (member-ids (b .id) (admitted gbr free bs), lt-ltb (b .id) 16 (formed .0), admitted-once before b later e t)
+      rw (member-ids (b .id) (admitted gbr free bs), lt-ltb (b .id) 16 (formed .0), admitted-once gbr free bs before b later e t)
       (by-cases (fits (turns gbr bs) free b) (λ u. rw u) (λ u. rw u))
 
   -- So its verdict can be told by the admitted set.

@@ -66,7 +66,7 @@ module _ (gbr : ℕ → Bool) (free : ℕ) (bs : List Bearer) where
 
   -- An ID of the request is admitted or refused: never both, and never neither.
   pub admitted-or-refused : (disjoint (idsOf (admitted gbr free bs)) (idsOf (refused gbr free bs)) ≡ true) × (union (idsOf (admitted gbr free bs)) (idsOf (refused gbr free bs)) ≡ idsOf bs)
-  admitted-or-refused = (disjoint-means (idsOf (admitted gbr free bs)) (idsOf (refused gbr free bs)) .1 not-both, same-members _ _ one)
+  admitted-or-refused = (disjoint-means _ _ .1 not-both, same-members _ _ one)
     where
       accepted : Bearer → Bool
       accepted b = eqb (verdict gbr free bs b) 0
@@ -83,7 +83,7 @@ module _ (gbr : ℕ → Bool) (free : ℕ) (bs : List Bearer) where
 
       one : (k : ℕ) → member (union (idsOf (admitted gbr free bs)) (idsOf (refused gbr free bs))) k ≡ member (idsOf bs) k
       one k =
-          rw (member-union (idsOf (admitted gbr free bs)) (idsOf (refused gbr free bs)) k, member-ids k (admitted gbr free bs), member-ids k (refused gbr free bs), member-ids k bs)
+          rw (member-union _ _ k, member-ids k (admitted gbr free bs), member-ids k (refused gbr free bs), member-ids k bs)
           (either (ltb k 16) (occurs k (admitted gbr free bs)) (occurs k (refused gbr free bs)) (occurs k bs) (those-others (once k) accepted bs))
 
   -- The units admitted are those of the bearers with verdict 0, and no more than were free.
@@ -128,7 +128,7 @@ passed-over gbr free before b later each e =
     (λ c h. verdict-without gbr b bs rest w (four .0) free (each-here Formed before b later refl each .1) (four .1) c (others gbr b bs rest w (four .0) c h))
 
 -- The same another way, for bearers with IDs and priorities up to 15.
-module _ (gbr : ℕ → Bool) (free : ℕ) (bs : List Bearer) (each : Each Formed bs) where
+module _ (gbr : ℕ → Bool) (bs : List Bearer) (each : Each Formed bs) where
   -- The turns are the bearers that have one, sorted by priority, those of one priority in their order.
   pub priority-first : turns gbr bs ≡ sorted (those (hasTurn gbr bs) bs)
   priority-first =
@@ -136,5 +136,5 @@ module _ (gbr : ℕ → Bool) (free : ℕ) (bs : List Bearer) (each : Each Forme
       (each-those Formed _ (hasTurn gbr bs) bs (λ b formed t. (turn-once gbr bs b t .1, omega arith)) each)
 
   -- And one walk through them, each taking its units if so many are left, gives the verdicts.
-  pub one-walk : Each (λ b. verdict gbr free bs b ≡ cond (hasTurn gbr bs b) (cond (member (idsOf (granted (sorted (those (hasTurn gbr bs) bs)) free)) (b .id)) 0 4) (standing gbr (occurs (b .id) bs) b)) bs
-  one-walk = each-split _ bs (λ before b later e. rw (← priority-first, granted-ids gbr free bs each) (verdict-member gbr free bs each before b later e))
+  pub one-walk : (free : ℕ) → Each (λ b. verdict gbr free bs b ≡ cond (hasTurn gbr bs b) (cond (member (idsOf (granted (sorted (those (hasTurn gbr bs) bs)) free)) (b .id)) 0 4) (standing gbr (occurs (b .id) bs) b)) bs
+  one-walk free = each-split _ bs (λ before b later e. rw (← priority-first, granted-ids gbr free bs each) (verdict-member gbr free bs each before b later e))

@@ -23,15 +23,19 @@ pub written-more : (verdict : Bearer → ℕ) (s : Survey) (j : ℕ) (d : Bearer
 unfolding written
 written-more verdict s j d buffer tidy h = rw (firsts-cons s j d tidy h, drop-cons (s .places) j 0 (omega (arith, tidy .few, tidy .places)), add-one)
 
+-- the IDs of the bearers that have a verdict other than 0
+abbrev idsRefused : (Bearer → ℕ) → List Bearer → ℕ
+idsRefused verdict bs = idsOf (those (λ b. not (eqb (verdict b) 0)) bs)
+
 -- And its ID, if it is refused.
-refused-cons : (verdict : Bearer → ℕ) (b : Bearer) (left : List Bearer) (refused all : ℕ) → union refused (idsOf (those (λ x. not (eqb (verdict x) 0)) (b ∷ left))) ≡ all → union (cond (eqb (verdict b) 0) refused (add refused (b .id))) (idsOf (those (λ x. not (eqb (verdict x) 0)) left)) ≡ all
+refused-cons : (verdict : Bearer → ℕ) (b : Bearer) (left : List Bearer) (refused all : ℕ) → union refused (idsRefused verdict (b ∷ left)) ≡ all → union (cond (eqb (verdict b) 0) refused (add refused (b .id))) (idsRefused verdict left) ≡ all
 unfolding those setOf
 refused-cons verdict b left refused all e =
     by-cases (eqb (verdict b) 0)
     (λ t. rw t (rw t at e))
-    (λ t. rw t (sym (union-slide refused (idsOf (those (λ x. not (eqb (verdict x) 0)) left)) (b .id)) ∙ rw t at e))
+    (λ t. rw t (sym (union-slide refused (idsRefused verdict left) (b .id)) ∙ rw t at e))
 
-pub refused-more : (verdict : Bearer → ℕ) (s : Survey) (j : ℕ) (d : Bearer) (refused all : ℕ) → Tidy s → j < s .len → union refused (idsOf (those (λ x. not (eqb (verdict x) 0)) (drop j (firstsOf s)))) ≡ all → union (cond (eqb (verdict (getD (s .firsts) j d)) 0) refused (add refused (getD (s .firsts) j d .id))) (idsOf (those (λ x. not (eqb (verdict x) 0)) (drop (j + 1) (firstsOf s)))) ≡ all
+pub refused-more : (verdict : Bearer → ℕ) (s : Survey) (j : ℕ) (d : Bearer) (refused all : ℕ) → Tidy s → j < s .len → union refused (idsRefused verdict (drop j (firstsOf s))) ≡ all → union (cond (eqb (verdict (getD (s .firsts) j d)) 0) refused (add refused (getD (s .firsts) j d .id))) (idsRefused verdict (drop (j + 1) (firstsOf s))) ≡ all
 refused-more verdict s j d refused all tidy h e = refused-cons verdict (getD (s .firsts) j d) (drop (j + 1) (firstsOf s)) refused all (rw (firsts-cons s j d tidy h) at e)
 
 -- A buffer that begins with the verdict of each bearer.
