@@ -7,8 +7,8 @@ use borrow.Author.Tests.{le-leb, lt-ltb}
 use native.Mathlib.Omega.{arith}
 use lib.Bits.{or-zero-l}
 use lib.Dec.{eqb}
-use lib.ListN.{length, getD, drop, replicate, length-take, length-append, length-replicate, getD-replicate, List·getD-append}
-use lib.Seq.{getD-take, length-take-le, drop-at}
+use lib.ListN.{length, getD, drop, replicate, length-append, length-replicate, getD-replicate, List·getD-append}
+use lib.Seq.{getD-take, drop-at}
 use Rattle.laws.proofs.Tests.{both-true}
 use Rattle.records.specs.declared.Record.{Record}
 use Rattle.bearers.specs.declared.Bearer.{Bearer}
@@ -21,7 +21,8 @@ use Rattle.bearers.proofs.Firsts.{same-ids}
 use Rattle.bearers.proofs.Granted.{units, grants, granted, run-granted, granted-total, turn-once}
 use Rattle.bearers.proofs.Laws.{priority-first}
 use Rattle.bearers.proofs.Listing.{Formed, formed}
-use Rattle.bearers.proofs.Sums.{Each, each-split, each-place, each-at, each-here, each-map, map-each, those-each, those-wider}
+use Rattle.bearers.proofs.Sums.{Each, each-split, each-at, each-here, each-map, map-each, those-each, those-wider}
+use Rattle.bearers.proofs.Turns.{length-firsts, firsts-small}
 use Rattle.bearers.proofs.Writing.{written-all}
 
 -- Bearers out of bearers' records have IDs and priorities up to 15.
@@ -49,10 +50,7 @@ module _ (bs : List Bearer) (s : Survey) (known : Surveyed bs s) where
         of-only xs = those-wider test (alone bs) xs (λ b t. le-leb (occurs (b .id) bs) 1 (turn-once release8 bs b t .0))
 
         first : Each (λ b. clear s b ≡ hasTurn release8 bs b) (firstsOf s)
-        first = each-place _ (firstsOf s) (λ j d h.
-            let inside : j < s .len = omega (arith, length-take (s .len) (s .firsts)) in
-            let small : getD (firstsOf s) j d .id < 16 = rw (getD-take (s .len) (s .firsts) j d inside) (known .tidy .small j d inside) in
-            rw (known .counted (getD (firstsOf s) j d .id) small))
+        first = each-map _ _ (firstsOf s) (λ b small. rw (known .counted (b .id) small)) (firsts-small s (known .tidy))
 
     module _ (free : ℕ) where
       -- the admitted set
@@ -83,7 +81,7 @@ module _ (bs : List Bearer) (s : Survey) (known : Surveyed bs s) where
           rest = drop (length bs) buffer
 
           long : length (firstsOf s) ≡ s .len
-          long = length-take-le (s .len) (s .firsts) (omega (arith, known .tidy .few, known .tidy .firsts))
+          long = length-firsts s (known .tidy)
 
           at : (j : ℕ) (d : Bearer) → j < length (firstsOf s) → (getD (s .places) j 0 < length bs) × (getD (firstsOf s) j d ≡ getD bs (getD (s .places) j 0) d)
           at j d h =
