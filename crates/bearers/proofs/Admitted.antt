@@ -18,7 +18,7 @@ use Rattle.bearers.proofs.Listing.{Formed}
 use Rattle.bearers.proofs.Membership.{same-members, member-setOf, ones-add, ones-none}
 use Rattle.bearers.proofs.Sums.{Each, total-append, total-those, total-le, once, once-own, each-here}
 
--- An ID is in the set of some bearers exactly if it is 0 to 15 and occurs.
+-- An ID is among those of some bearers exactly if it occurs.
 among-occurs : (k : ℕ) (bs : List Bearer) → among k (map (λ b. b .id) bs) ≡ ltb 0 (occurs k bs)
 unfolding among total
 among-occurs k [] = refl
@@ -29,10 +29,11 @@ among-occurs k (b ∷ bs) =
     (λ t. let other : b .id ≡ k → ⊥ = eqb-false (b .id) k t in
     rw (t, ne-eqb k (b .id) (λ e. other (sym e)), among-occurs k bs, zero-add))
 
+-- So it is in their set exactly if it occurs and is 0 to 15.
 pub member-ids : (k : ℕ) (bs : List Bearer) → member (idsOf bs) k ≡ (ltb k 16 && ltb 0 (occurs k bs))
 member-ids k bs = member-setOf (map (λ b. b .id) bs) k ∙ ap (λ (t : Bool). ltb k 16 && t) (among-occurs k bs)
 
--- So an ID that does not occur is not in it.
+-- One that does not occur is not in it.
 pub member-absent : (k : ℕ) (bs : List Bearer) → occurs k bs ≡ 0 → member (idsOf bs) k ≡ false
 member-absent k bs none = rw (member-ids k bs, none) (and-false (ltb k 16))
 
