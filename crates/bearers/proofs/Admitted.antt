@@ -1,9 +1,9 @@
 -- The admitted set, whichever QCIs are GBR classes: the IDs of those that fit at their turn.
 use Prim.Native.Nat.{ℕ, suc, _+_, _≤_, _<_}
-use mathlib.Core.Path.{_≡_, refl, _∙_, sym, ap, subst}
-use mathlib.Core.Bool.{Bool, true, false, cond, _&&_}
+use mathlib.Core.Path.{_≡_, refl, _∙_, sym, ap}
+use mathlib.Core.Bool.{Bool, true, false, cond, _&&_, and-false}
 use mathlib.Core.List.{List, [], _∷_, _++_, map}
-use borrow.Author.Tests.{eq-eqb, ne-eqb, eqb-true, eqb-false, lt-ltb, le-ltb}
+use borrow.Author.Tests.{eq-eqb, ne-eqb, eqb-true, eqb-false, lt-ltb}
 use native.Mathlib.Nat.{zero-add}
 use native.Mathlib.Omega.{arith}
 use lib.Count.{ones}
@@ -13,11 +13,12 @@ use Rattle.laws.proofs.Tests.{by-cases}
 use Rattle.bearers.specs.declared.Bearer.{Bearer}
 use Rattle.bearers.specs.Admission.{total, occurs, standing, hasTurn, turns, verdict, admitted, idsOf}
 use Rattle.bearers.specs.Sets.{member, among, setOf}
-use Rattle.bearers.proofs.Granted.{Formed, Distinct, units, granted, granted-le, granted-total, zero-means, turn-once, fits, once}
+use Rattle.bearers.proofs.Granted.{Distinct, distinct-first, distinct-rest, units, granted, granted-le, granted-total, zero-means, turn-once, fits}
+use Rattle.bearers.proofs.Listing.{Formed}
 use Rattle.bearers.proofs.Membership.{same-members, member-setOf, ones-add, ones-none}
-use Rattle.bearers.proofs.Sums.{Each, total-split, total-those, total-le, each-here}
+use Rattle.bearers.proofs.Sums.{Each, total-append, total-those, total-le, once, once-own, each-here}
 
--- An ID is in the set of some bearers exactly if it is 0 to 15 and occurs.
+-- An ID is among those of some bearers exactly if it occurs.
 among-occurs : (k : ℕ) (bs : List Bearer) → among k (map (λ b. b .id) bs) ≡ ltb 0 (occurs k bs)
 unfolding among total
 among-occurs k [] = refl
@@ -28,21 +29,41 @@ among-occurs k (b ∷ bs) =
     (λ t. let other : b .id ≡ k → ⊥ = eqb-false (b .id) k t in
     rw (t, ne-eqb k (b .id) (λ e. other (sym e)), among-occurs k bs, zero-add))
 
+-- So it is in their set exactly if it occurs and is 0 to 15.
 pub member-ids : (k : ℕ) (bs : List Bearer) → member (idsOf bs) k ≡ (ltb k 16 && ltb 0 (occurs k bs))
 member-ids k bs = member-setOf (map (λ b. b .id) bs) k ∙ ap (λ (t : Bool). ltb k 16 && t) (among-occurs k bs)
 
+-- One that does not occur is not in it.
+pub member-absent : (k : ℕ) (bs : List Bearer) → occurs k bs ≡ 0 → member (idsOf bs) k ≡ false
+member-absent k bs none = rw (member-ids k bs, none) (and-false (ltb k 16))
+
 -- The number of ones in the set of some bearers' IDs is their number, where no two have one ID.
 pub ones-ids : (bs : List Bearer) → Each (λ b. b .id < 16) bs → Distinct bs → ones (idsOf bs) ≡ length bs
-unfolding setOf total
+unfolding setOf
 ones-ids [] each distinct = ones-none
 ones-ids (b ∷ bs) each distinct =
-    let rest : Distinct bs = λ k. omega (arith, distinct k) in
-    let new : occurs (b .id) bs ≤ 0 = alone (distinct (b .id)) in
-    let none : member (idsOf bs) (b .id) ≡ false = member-ids (b .id) bs ∙ rw (lt-ltb (b .id) 16 (each .0)) (le-ltb 0 (occurs (b .id) bs) new) in
-    ones-add (idsOf bs) (b .id) (each .0) none ∙ ap suc (ones-ids bs (each .1) rest)
-  where
-    alone : once (b .id) b + occurs (b .id) bs ≤ 1 → occurs (b .id) bs ≤ 0
-    alone h = let one : 1 + occurs (b .id) bs ≤ 1 = rw (eq-eqb (b .id) (b .id) refl) at h in omega arith
+    ones-add (idsOf bs) (b .id) (each .0) (member-absent (b .id) bs (distinct-first b bs distinct)) ∙ ap suc (ones-ids bs (each .1) (distinct-rest b bs distinct))
+
+module _ (gbr : ℕ → Bool) (free : ℕ) (bs : List Bearer) where
+  -- Of the bearers with its ID only the bearer itself, where it has a turn, can have verdict 0.
+  admitted-once : (before : List Bearer) (b : Bearer) (later : List Bearer) → bs ≡ before ++ b ∷ later → hasTurn gbr bs b ≡ true → occurs (b .id) (admitted gbr free bs) ≡ cond (fits (turns gbr bs) free b) 1 0
+  unfolding total
+  admitted-once before b later e t =
+      let counted : Bearer → ℕ = λ x. cond (eqb (verdict gbr free bs x) 0) (once (b .id) x) 0 in
+      let le : (x : Bearer) → counted x ≤ once (b .id) x = λ x. by-cases (eqb (verdict gbr free bs x) 0) (λ u. rw u (omega arith)) (λ u. rw u (omega arith)) in
+      let here : counted b ≡ cond (fits (turns gbr bs) free b) 1 0 = rw (once-own b, zero-means gbr free bs b, t) in
+      let single : occurs (b .id) bs ≤ 1 = turn-once gbr bs b t .0 in
+      omega (
+        arith,
+        total-those (once (b .id)) (λ x. eqb (verdict gbr free bs x) 0) bs,
+        ap (total counted) e,
+        total-append counted before (b ∷ later),
+        ap (total (once (b .id))) e,
+        total-append (once (b .id)) before (b ∷ later),
+        once-own b,
+        total-le counted (once (b .id)) before le,
+        total-le counted (once (b .id)) later le,
+      )
 
 module _ (gbr : ℕ → Bool) (free : ℕ) (bs : List Bearer) (each : Each Formed bs) where
   -- The IDs of who got units are those of who has verdict 0.
@@ -55,30 +76,11 @@ module _ (gbr : ℕ → Bool) (free : ℕ) (bs : List Bearer) (each : Each Forme
   pub admitted-le : total units (admitted gbr free bs) ≤ free
   admitted-le = omega (arith, granted-le (turns gbr bs) free, granted-total gbr free bs each units)
 
-  -- Of the bearers with its ID only the bearer itself, where it has a turn, can have verdict 0.
-  admitted-once : (before : List Bearer) (b : Bearer) (later : List Bearer) → bs ≡ before ++ b ∷ later → hasTurn gbr bs b ≡ true → occurs (b .id) (admitted gbr free bs) ≡ cond (fits (turns gbr bs) free b) 1 0
-  admitted-once before b later e t =
-      let counted : Bearer → ℕ = λ x. cond (eqb (verdict gbr free bs x) 0) (once (b .id) x) 0 in
-      let le : (x : Bearer) → counted x ≤ once (b .id) x = λ x. by-cases (eqb (verdict gbr free bs x) 0) (λ u. rw u (omega arith)) (λ u. rw u (omega arith)) in
-      let here : counted b ≡ cond (fits (turns gbr bs) free b) 1 0 = rw (eq-eqb (b .id) (b .id) refl, zero-means gbr free bs b, t) in
-      let one : once (b .id) b ≡ 1 = rw (eq-eqb (b .id) (b .id) refl) in
-      let single : occurs (b .id) bs ≤ 1 = turn-once gbr bs b t .0 in
-      omega (
-        arith,
-        total-those (once (b .id)) (λ x. eqb (verdict gbr free bs x) 0) bs,
-        ap (total counted) e,
-        total-split counted before b later,
-        ap (total (once (b .id))) e,
-        total-split (once (b .id)) before b later,
-        total-le counted (once (b .id)) before le,
-        total-le counted (once (b .id)) later le,
-      )
-
   -- A bearer that has a turn is in the admitted set exactly if it fits.
   admitted-fits : (before : List Bearer) (b : Bearer) (later : List Bearer) → bs ≡ before ++ b ∷ later → hasTurn gbr bs b ≡ true → member (idsOf (admitted gbr free bs)) (b .id) ≡ fits (turns gbr bs) free b
   admitted-fits before b later e t =
-      let formed : Formed b = each-here Formed before b later (subst (Each Formed) e each) in
-      rw (member-ids (b .id) (admitted gbr free bs), lt-ltb (b .id) 16 (formed .0), admitted-once before b later e t)
+      let formed : Formed b = each-here Formed before b later e each in
+      rw (member-ids (b .id) (admitted gbr free bs), lt-ltb (b .id) 16 (formed .0), admitted-once gbr free bs before b later e t)
       (by-cases (fits (turns gbr bs) free b) (λ u. rw u) (λ u. rw u))
 
   -- So its verdict can be told by the admitted set.

@@ -17,7 +17,7 @@ use Rattle.bearers.proofs.Listing.{length-bearers}
 module _ (bytes : List ℕ) (free : ℕ) (buffer : List ℕ) where
   -- The byte at a bearer's place is its verdict.
   pub verdict-at : (i : ℕ) (d : Bearer) → judgeable bytes (length buffer) ≡ true → i < length bytes / 32
-      → getD (verdictsIn bytes free buffer) i (verdict release8 free (bearersIn (length bytes / 32) bytes) d) ≡ verdict release8 free (bearersIn (length bytes / 32) bytes) (getD (bearersIn (length bytes / 32) bytes) i d)
+      → let bs = bearersIn (length bytes / 32) bytes in getD (verdictsIn bytes free buffer) i (verdict release8 free bs d) ≡ verdict release8 free bs (getD bs i d)
   verdict-at i d judged h =
       let bs = bearersIn (length bytes / 32) bytes in
       rw judged

@@ -3,22 +3,17 @@ use Prim.Native.Nat.{ℕ, _≤_, _<_}
 use mathlib.Core.Path.{_≡_, _∙_, sym, ap}
 use mathlib.Core.Bool.{Bool, true, cond}
 use mathlib.Core.List.{List}
-use borrow.Author.Tests.{eqb-true, leb-false, lt-ltb, ltb-true, ltb-false}
+use borrow.Author.Tests.{leb-false, lt-ltb, ltb-true, ltb-false}
 use native.Mathlib.Omega.{arith}
-use lib.Dec.{ltb, eqb}
-use Rattle.laws.proofs.Tests.{by-cases}
+use lib.Dec.{ltb}
+use Rattle.laws.proofs.Tests.{by-cases, on-either}
 use Rattle.bearers.specs.declared.Bearer.{Bearer}
 use Rattle.bearers.specs.declared.Survey.{Survey}
 use Rattle.bearers.specs.Admission.{total, those, occurs, idsOf}
 use Rattle.bearers.specs.Working.{alone, Surveyed, firstsOf}
 use Rattle.bearers.proofs.Admitted.{member-ids}
-use Rattle.bearers.proofs.Granted.{once}
 use Rattle.bearers.proofs.Membership.{same-members}
-use Rattle.bearers.proofs.Sums.{total-those, total-equal}
-
--- A number that is 0 counts as much with a test as without.
-no-count : (test : Bool) (n : ℕ) → n ≡ 0 → cond test n 0 ≡ n
-no-count test n none = by-cases test (λ t. rw t) (λ t. rw t (sym none))
+use Rattle.bearers.proofs.Sums.{total-those, total-equal, once, once-other, occurs-those}
 
 module _ (bs : List Bearer) (s : Survey) (known : Surveyed bs s) where
   -- What counts no bearer whose ID occurs more than once has the same sum over the first bearers as over all.
@@ -34,13 +29,7 @@ module _ (bs : List Bearer) (s : Survey) (known : Surveyed bs s) where
   module _ (test : Bearer → Bool) (passes : (b : Bearer) → b .id < 16 → 1 < occurs (b .id) bs → test b ≡ true) where
     -- Where an ID occurs more than once, each of its bearers passes the test.
     all-pass : (k : ℕ) → k < 16 → 1 < occurs k bs → (xs : List Bearer) → occurs k (those test xs) ≡ occurs k xs
-    all-pass k small more xs = total-those (once k) test xs ∙ total-equal (λ b. cond (test b) (once k b) 0) (once k) xs same
-      where
-        same : (b : Bearer) → cond (test b) (once k b) 0 ≡ once k b
-        same b =
-            by-cases (eqb (b .id) k)
-            (λ t. let id : b .id ≡ k = eqb-true (b .id) k t in rw (passes b (omega arith) (rw id more)))
-            (λ t. no-count (test b) (once k b) (rw t))
+    all-pass k small more xs = occurs-those k test true xs (λ b id. passes b (omega arith) (rw id more))
 
     picked : (k : ℕ) → k < 16 → ltb 0 (occurs k (those test (firstsOf s))) ≡ ltb 0 (occurs k (those test bs))
     picked k small =
@@ -51,9 +40,7 @@ module _ (bs : List Bearer) (s : Survey) (known : Surveyed bs s) where
       where
         uncounted : occurs k bs ≤ 1 → (b : Bearer) → 1 < occurs (b .id) bs → cond (test b) (once k b) 0 ≡ 0
         uncounted few b more =
-            by-cases (eqb (b .id) k)
-            (λ t. let id : b .id ≡ k = eqb-true (b .id) k t in let clash : 1 < occurs k bs = rw id at more in absurd (omega arith))
-            (λ t. no-count (test b) (once k b) (rw t) ∙ rw t)
+            rw (once-other k b (λ id. let clash : 1 < occurs k bs = rw id at more in omega arith)) (on-either (test b) 0)
 
     -- A test that each bearer passes whose ID occurs more than once picks the same IDs from the first bearers as from all.
     pub same-ids : idsOf (those test (firstsOf s)) ≡ idsOf (those test bs)

@@ -1,9 +1,9 @@
 -- Who gets units when the turns are taken one after the other: those that fit at their turn.
-use Prim.Native.Nat.{ℕ, _+_, _-_, _≤_, _<_}
+use Prim.Native.Nat.{ℕ, _-_, _≤_, _<_}
 use mathlib.Core.Path.{_≡_, refl, _∙_, sym, ap}
 use mathlib.Core.Bool.{Bool, true, false, cond, _&&_, true≢false}
 use mathlib.Core.List.{List, [], _∷_}
-use borrow.Author.Tests.{eq-eqb, ne-eqb, eqb-true, eqb-false, le-leb, lt-ltb, leb-true, ltb-true, ltb-false}
+use borrow.Author.Tests.{eq-eqb, ne-eqb, eqb-false, le-leb, lt-ltb, leb-true, ltb-true, ltb-false}
 use native.Mathlib.Omega.{arith}
 use lib.Bits.{or-zero-r}
 use lib.Dec.{leb, ltb, eqb}
@@ -13,8 +13,9 @@ use Rattle.bearers.specs.declared.Grants.{Grants}
 use Rattle.bearers.specs.Admission.{total, those, occurs, hasTurn, turns, after, freeAt, verdict, admitted, idsOf}
 use Rattle.bearers.specs.Sets.{add, union, setOf}
 use Rattle.bearers.specs.Working.{run}
-use Rattle.bearers.proofs.Sums.{Each, total-same, total-equal, total-those, those-le, those-same, total-turns, total-none, within}
-use Rattle.bearers.proofs.Writing.{union-slide}
+use Rattle.bearers.proofs.Listing.{Formed}
+use Rattle.bearers.proofs.Membership.{union-slide}
+use Rattle.bearers.proofs.Sums.{Each, total-same, total-those, those-le, those-same, once, once-own, occurs-those, total-turns, within}
 
 -- ---- the walk
 
@@ -60,45 +61,37 @@ run-granted (t ∷ ts) set free =
 abbrev pub Distinct : List Bearer → Type 0
 Distinct bs = (k : ℕ) → occurs k bs ≤ 1
 
+-- Its others have other IDs than its first, and are such a list themselves.
+pub distinct-first : (b : Bearer) (bs : List Bearer) → Distinct (b ∷ bs) → occurs (b .id) bs ≡ 0
+unfolding total
+distinct-first b bs distinct = omega (arith, once-own b, distinct (b .id))
+
+pub distinct-rest : (b : Bearer) (bs : List Bearer) → Distinct (b ∷ bs) → Distinct bs
+unfolding total
+distinct-rest b bs distinct k = omega (arith, distinct k)
+
 abbrev pub fits : List Bearer → ℕ → Bearer → Bool
 fits ts free b = leb (b .units) (freeAt ts (b .id) free)
 
 -- At the turns after the first, what is free is what the first has left.
 fits-after : (t : Bearer) (ts : List Bearer) (free : ℕ) → Distinct (t ∷ ts) → those (fits (t ∷ ts) free) ts ≡ those (fits ts (after free t)) ts
-unfolding freeAt total
+unfolding freeAt
 fits-after t ts free distinct =
     those-same (fits (t ∷ ts) free) (fits ts (after free t)) ts
-    (λ b h.
-    let other : t .id ≡ b .id → ⊥ = λ e. clash b h e (distinct (t .id)) in
-    rw (ne-eqb (t .id) (b .id) other))
-  where
-    clash : (b : Bearer) → 0 < occurs (b .id) ts → t .id ≡ b .id → occurs (t .id) (t ∷ ts) ≤ 1 → ⊥
-    clash b h e d =
-        let once : 1 + occurs (t .id) ts ≤ 1 = rw (eq-eqb (t .id) (t .id) refl) at d in
-        let some : 0 < occurs (t .id) ts = rw e h in
-        omega arith
+    (λ b some. rw (ne-eqb (t .id) (b .id) (λ e. let none : occurs (b .id) ts ≡ 0 = rw e at (distinct-first t ts distinct) in omega arith)))
 
 granted-those : (ts : List Bearer) (free : ℕ) → Distinct ts → granted ts free ≡ those (fits ts free) ts
-unfolding granted those freeAt total
+unfolding granted those freeAt
 granted-those [] free distinct = refl
 granted-those (t ∷ ts) free distinct =
-    let rest : Distinct ts = λ k. omega (arith, distinct k) in
     let next : (left : ℕ) → after free t ≡ left → granted ts left ≡ those (fits (t ∷ ts) free) ts =
-    λ left e. granted-those ts left rest ∙ sym (fits-after t ts free distinct ∙ ap (λ (n : ℕ). those (fits ts n) ts) e) in
+    λ left e. granted-those ts left (distinct-rest t ts distinct) ∙ sym (fits-after t ts free distinct ∙ ap (λ (n : ℕ). those (fits ts n) ts) e) in
     rw (eq-eqb (t .id) (t .id) refl)
     (by-cases (leb (t .units) free)
     (λ e. rw e (ap (λ (l : List Bearer). t ∷ l) (next (free - t .units) (rw e))))
     (λ e. rw e (next free (rw e))))
 
 -- ---- of the turns of a request, those are the bearers with verdict 0
-
--- what a bearer's record settles
-abbrev pub Formed : Bearer → Type 0
-Formed b = (b .id < 16) × (b .priority ≤ 15)
-
--- what a bearer counts among those with an ID
-abbrev pub once : ℕ → Bearer → ℕ
-once k b = cond (eqb (b .id) k) 1 0
 
 module _ (gbr : ℕ → Bool) (bs : List Bearer) where
   -- A bearer whose ID occurs more than once has no turn.
@@ -119,16 +112,8 @@ module _ (gbr : ℕ → Bool) (bs : List Bearer) where
     -- Of bearers that have a turn none has an ID that occurs more than once in the request.
     pub those-repeated : (k : ℕ) → 1 < occurs k bs → occurs k (those test bs) ≡ 0
     those-repeated k h =
-        total-those (once k) test bs ∙ total-equal (λ b. cond (test b) (once k b) 0) (λ b. 0) bs none ∙ total-none bs
-      where
-        none : (b : Bearer) → cond (test b) (once k b) 0 ≡ 0
-        none b =
-            by-cases (test b)
-            (λ t.
-            by-cases (eqb (b .id) k)
-            (λ u. let same : b .id ≡ k = eqb-true (b .id) k u in absurd (true≢false (sym (turn b t) ∙ no-turn b (rw same h))))
-            (λ u. rw (t, u)))
-            (λ t. rw t)
+        occurs-those k test false bs
+        (λ b id. by-cases (test b) (λ t. absurd (true≢false (sym (turn b t) ∙ no-turn b (rw id h)))) (λ t. t))
 
     -- So no two of them have one ID.
     pub those-distinct : Distinct (those test bs)

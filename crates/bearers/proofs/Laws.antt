@@ -4,7 +4,7 @@ use mathlib.Core.Path.{_≡_, refl, _∙_, sym}
 use mathlib.Core.Bool.{Bool, true, false, cond, not, _&&_, _||_}
 use mathlib.Core.List.{List, _∷_, _++_, map}
 use mathlib.Core.Logic.{_↔_}
-use borrow.Author.Tests.{eqb-false, le-leb, lt-leb, leb-true, leb-false, lt-ltb, ltb-true, ltb-false}
+use borrow.Author.Tests.{eq-eqb, eqb-false, le-leb, lt-leb, leb-true, leb-false, lt-ltb, ltb-true, ltb-false}
 use native.Mathlib.Omega.{arith}
 use lib.Count.{ones}
 use lib.Dec.{ltb, eqb}
@@ -14,11 +14,12 @@ use Rattle.bearers.specs.declared.Bearer.{Bearer}
 use Rattle.bearers.specs.Admission.{total, those, occurs, standing, hasTurn, turns, freeAt, verdict, admitted, refused, idsOf}
 use Rattle.bearers.specs.Sets.{member, union, disjoint}
 use Rattle.bearers.specs.Working.{sorted}
-use Rattle.bearers.proofs.Admitted.{member-ids, ones-ids, admitted-le, granted-ids, verdict-member}
-use Rattle.bearers.proofs.Granted.{Formed, units, fits, once, granted, turn-once, no-turn, zero-turn, those-repeated, those-distinct}
+use Rattle.bearers.proofs.Admitted.{member-ids, member-absent, ones-ids, admitted-le, granted-ids, verdict-member}
+use Rattle.bearers.proofs.Granted.{units, fits, granted, turn-once, no-turn, zero-means, zero-turn, those-repeated, those-distinct}
+use Rattle.bearers.proofs.Listing.{Formed}
 use Rattle.bearers.proofs.Membership.{same-members, member-union, disjoint-means}
 use Rattle.bearers.proofs.Sorting.{turns-sorted}
-use Rattle.bearers.proofs.Sums.{Each, total-those, those-others, each-those, each-here, each-split, each-occurs}
+use Rattle.bearers.proofs.Sums.{Each, total-those, those-others, once, each-those, each-here, each-split, each-occurs}
 use Rattle.bearers.proofs.Without.{without-split, others, verdict-without}
 
 -- One of two numbers is above 0 exactly if their sum is.
@@ -60,12 +61,12 @@ module _ (gbr : ℕ → Bool) (free : ℕ) (bs : List Bearer) where
   unfolding verdict
   repeated b h = (
     rw (no-turn gbr bs b h, lt-ltb 1 (occurs (b .id) bs) h),
-    member-ids (b .id) (admitted gbr free bs) ∙ rw (those-repeated gbr bs _ (zero-turn gbr free bs) (b .id) h) (by-cases (ltb (b .id) 16) (λ t. rw t) (λ t. rw t)),
+    member-absent (b .id) (admitted gbr free bs) (those-repeated gbr bs _ (zero-turn gbr free bs) (b .id) h),
   )
 
   -- An ID of the request is admitted or refused: never both, and never neither.
   pub admitted-or-refused : (disjoint (idsOf (admitted gbr free bs)) (idsOf (refused gbr free bs)) ≡ true) × (union (idsOf (admitted gbr free bs)) (idsOf (refused gbr free bs)) ≡ idsOf bs)
-  admitted-or-refused = (disjoint-means (idsOf (admitted gbr free bs)) (idsOf (refused gbr free bs)) .1 not-both, same-members _ _ one)
+  admitted-or-refused = (disjoint-means _ _ .1 not-both, same-members _ _ one)
     where
       accepted : Bearer → Bool
       accepted b = eqb (verdict gbr free bs b) 0
@@ -78,11 +79,11 @@ module _ (gbr : ℕ → Bool) (free : ℕ) (bs : List Bearer) where
           let some : 0 < a = ltb-true 0 a (both-true (ltb k 16) (ltb 0 a) (sym (member-ids k (admitted gbr free bs)) ∙ t) .1) in
           by-cases (ltb 0 r)
           (λ u. absurd (omega (arith, ltb-true 0 r u, those-repeated gbr bs accepted (zero-turn gbr free bs) k (omega (arith, ltb-true 0 r u)))))
-          (λ u. member-ids k (refused gbr free bs) ∙ rw u (by-cases (ltb k 16) (λ v. rw v) (λ v. rw v)))
+          (λ u. member-absent k (refused gbr free bs) (omega (arith, ltb-false 0 r u)))
 
       one : (k : ℕ) → member (union (idsOf (admitted gbr free bs)) (idsOf (refused gbr free bs))) k ≡ member (idsOf bs) k
       one k =
-          rw (member-union (idsOf (admitted gbr free bs)) (idsOf (refused gbr free bs)) k, member-ids k (admitted gbr free bs), member-ids k (refused gbr free bs), member-ids k bs)
+          rw (member-union _ _ k, member-ids k (admitted gbr free bs), member-ids k (refused gbr free bs), member-ids k bs)
           (either (ltb k 16) (occurs k (admitted gbr free bs)) (occurs k (refused gbr free bs)) (occurs k bs) (those-others (once k) accepted bs))
 
   -- The units admitted are those of the bearers with verdict 0, and no more than were free.
@@ -113,11 +114,8 @@ module _ (gbr : ℕ → Bool) (free : ℕ) (bs : List Bearer) where
     where
       there : verdict gbr free bs b ≡ 0 → (hasTurn gbr bs b ≡ true) × (b .units ≤ freeAt (turns gbr bs) (b .id) free)
       there e =
-          by-cases (hasTurn gbr bs b)
-          (λ t. by-cases (fits (turns gbr bs) free b)
-          (λ u. (t, leb-true (b .units) (freeAt (turns gbr bs) (b .id) free) u))
-          (λ u. absurd (omega (arith, rw u at (with-turn b t)))))
-          (λ t. absurd (omega (arith, without-turn b t)))
+          let both = both-true (hasTurn gbr bs b) (fits (turns gbr bs) free b) (sym (zero-means gbr free bs b) ∙ eq-eqb (verdict gbr free bs b) 0 e) in
+          (both .0, leb-true (b .units) (freeAt (turns gbr bs) (b .id) free) (both .1))
 
 -- The next is tried after a bearer that does not fit: each other has the verdict that it has in the request without that one.
 pub passed-over : (gbr : ℕ → Bool) (free : ℕ) (before : List Bearer) (b : Bearer) (later : List Bearer) → Each Formed (before ++ b ∷ later) → verdict gbr free (before ++ b ∷ later) b ≡ 4 → Each (λ c. verdict gbr free (before ++ later) c ≡ verdict gbr free (before ++ b ∷ later) c) (before ++ later)
@@ -127,10 +125,10 @@ passed-over gbr free before b later each e =
     let w = without-split b before later in
     let four : (hasTurn gbr bs b ≡ true) × (freeAt (turns gbr bs) (b .id) free < b .units) = verdict-four gbr free bs b .0 e in
     each-occurs _ rest
-    (λ c h. verdict-without gbr b bs rest w (four .0) free (each-here Formed before b later each .1) (four .1) c (others gbr b bs rest w (four .0) c h))
+    (λ c h. verdict-without gbr b bs rest w (four .0) free (each-here Formed before b later refl each .1) (four .1) c (others gbr b bs rest w (four .0) c h))
 
 -- The same another way, for bearers with IDs and priorities up to 15.
-module _ (gbr : ℕ → Bool) (free : ℕ) (bs : List Bearer) (each : Each Formed bs) where
+module _ (gbr : ℕ → Bool) (bs : List Bearer) (each : Each Formed bs) where
   -- The turns are the bearers that have one, sorted by priority, those of one priority in their order.
   pub priority-first : turns gbr bs ≡ sorted (those (hasTurn gbr bs) bs)
   priority-first =
@@ -138,5 +136,5 @@ module _ (gbr : ℕ → Bool) (free : ℕ) (bs : List Bearer) (each : Each Forme
       (each-those Formed _ (hasTurn gbr bs) bs (λ b formed t. (turn-once gbr bs b t .1, omega arith)) each)
 
   -- And one walk through them, each taking its units if so many are left, gives the verdicts.
-  pub one-walk : Each (λ b. verdict gbr free bs b ≡ cond (hasTurn gbr bs b) (cond (member (idsOf (granted (sorted (those (hasTurn gbr bs) bs)) free)) (b .id)) 0 4) (standing gbr (occurs (b .id) bs) b)) bs
-  one-walk = each-split _ bs (λ before b later e. rw (← priority-first, granted-ids gbr free bs each) (verdict-member gbr free bs each before b later e))
+  pub one-walk : (free : ℕ) → Each (λ b. verdict gbr free bs b ≡ cond (hasTurn gbr bs b) (cond (member (idsOf (granted (sorted (those (hasTurn gbr bs) bs)) free)) (b .id)) 0 4) (standing gbr (occurs (b .id) bs) b)) bs
+  one-walk free = each-split _ bs (λ before b later e. rw (← priority-first, granted-ids gbr free bs each) (verdict-member gbr free bs each before b later e))

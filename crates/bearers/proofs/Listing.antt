@@ -6,11 +6,11 @@ use mathlib.Core.List.{List, _∷_}
 use borrow.Author.Tests.{le-leb, leb-true}
 use native.Mathlib.Omega.{arith}
 use lib.Dec.{leb, eqb}
-use lib.ListN.{length, take, drop}
+use lib.ListN.{length, drop}
 use lib.Seq.{drop-drop}
 use Rattle.laws.proofs.Tests.{by-cases, both-true}
 use Rattle.records.specs.declared.Record.{Record}
-use Rattle.records.specs.Record.{recordOf}
+use Rattle.records.specs.Record.{recordAt}
 use Rattle.bearers.specs.declared.Bearer.{Bearer}
 use Rattle.bearers.specs.declared.Parsed.the-variants.{Whole, Malformed}
 use Rattle.bearers.specs.Admission.{countable}
@@ -19,7 +19,7 @@ use Rattle.bearers.specs.Working.{parsedAt}
 
 -- the record at a place
 abbrev placed : List ℕ → ℕ → Record
-placed bytes i = recordOf (take 32 (drop (i * 32) bytes))
+placed bytes i = recordAt bytes (i * 32)
 
 -- what is left of the records from a place on
 abbrev pub rest : List ℕ → ℕ → ℕ → List Record
@@ -41,11 +41,15 @@ parsed-whole r b e = by-cases (isBearer r) (λ t. (t, cc)) (λ t. let z : _≡_ 
 parsed-malformed : (r : Record) → parsed r ≡ Malformed → isBearer r ≡ false
 parsed-malformed r e = by-cases (isBearer r) (λ t. let z : _≡_ {A = ℕ} 0 1 = cc in absurd (omega arith)) (λ t. t)
 
--- A bearer's ID and priority are at most 15.
+-- what a bearer's record settles: its ID and its priority are at most 15
+abbrev pub Formed : Bearer → Type 0
+Formed b = (b .id < 16) × (b .priority ≤ 15)
+
+-- the tests before those two
 abbrev others : Record → Bool
 others r = othersZero r && eqb (r .kind) 16 && leb (r .number) 1000000 && leb (r .flags) 1
 
-pub formed : (r : Record) → isBearer r ≡ true → (bearerOf r .id < 16) × (bearerOf r .priority ≤ 15)
+pub formed : (r : Record) → isBearer r ≡ true → Formed (bearerOf r)
 formed r t =
     let halves : (others r && leb (r .priority) 15 ≡ true) × (leb (r .erab) 15 ≡ true) = both-true (others r && leb (r .priority) 15) (leb (r .erab) 15) t in (
       omega (arith, leb-true (r .erab) 15 (halves .1)),

@@ -1,7 +1,7 @@
 -- What the numbers of `Sets` mean as sets. Each law is shown bit by bit, and two numbers with the same bits are one.
 use Prim.Native.Nat.{ℕ, zero, suc, _/_, _%_, _^_, _<_, _≤_, min, max}
 use mathlib.Core.Path.{_≡_, refl, sym, ap, _∙_, subst}
-use mathlib.Core.Bool.{Bool, true, false, cond, _&&_, _||_}
+use mathlib.Core.Bool.{Bool, true, false, cond, _&&_, _||_, and-false, or-assoc, or-comm as either-order}
 use mathlib.Core.List.{List, [], _∷_}
 use mathlib.Core.Logic.{_↔_}
 use borrow.Author.Tests.{lt-ltb, ltb-true, eq-eqb, eqb-true, eqb-false}
@@ -130,6 +130,15 @@ same-members a b =
     a
     b
 
+-- An ID may be added to the one set of a union or to the other.
+pub union-slide : (a b k : ℕ) → union a (add b k) ≡ union (add a k) b
+union-slide a b k =
+    same-members (union a (add b k)) (union (add a k) b)
+    (λ j.
+    let added : Bool = ltb k 16 && eqb j k in
+    rw (member-union a (add b k) j, member-added b k j, member-union (add a k) b j, member-added a k j, either-order added (member a j))
+    (sym (or-assoc (member a j) added (member b j))))
+
 -- ---- disjoint sets, and sets within others
 
 -- A number is the intersection of two exactly if its members are those that are in both.
@@ -200,7 +209,7 @@ bounds false q false rest same = refl
 -- The members of the set of a list are those of the list that are no more than 15.
 pub member-setOf : (ks : List ℕ) (k : ℕ) → member (setOf ks) k ≡ (ltb k 16 && among k ks)
 unfolding setOf among
-member-setOf [] k = member-none k ∙ by-cases (ltb k 16) (λ t. rw t) (λ t. rw t)
+member-setOf [] k = member-none k ∙ sym (and-false (ltb k 16))
 member-setOf (x ∷ ks) k =
     member-added (setOf ks) x k
     ∙ rw (member-setOf ks k) (bounds (ltb x 16) (ltb k 16) (eqb k x) (among k ks) (λ t. rw (eqb-true k x t)))

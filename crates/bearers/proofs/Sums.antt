@@ -1,14 +1,14 @@
 -- Sums over bearers, and the lists that they are taken of.
 use Prim.Native.Nat.{ℕ, zero, suc, _+_, _≤_, _<_}
-use mathlib.Core.Path.{_≡_, refl, _∙_, sym, ap₂}
-use mathlib.Core.Bool.{Bool, true, cond, not, _&&_}
+use mathlib.Core.Path.{_≡_, refl, _∙_, sym, ap₂, subst}
+use mathlib.Core.Bool.{Bool, true, false, cond, not, _&&_}
 use mathlib.Core.List.{List, [], _∷_, _++_, map}
-use borrow.Author.Tests.{eq-eqb, eqb-true, eqb-false, le-leb, lt-leb, lt-ltb, le-ltb, leb-true, leb-false}
+use borrow.Author.Tests.{eq-eqb, ne-eqb, eqb-true, eqb-false, le-leb, lt-leb, lt-ltb, le-ltb, leb-true, leb-false}
 use native.Mathlib.Omega.{arith}
 use lib.Dec.{leb, ltb, eqb}
 use lib.ListN.{length, getD}
 use lib.Seq.{append-snoc}
-use Rattle.laws.proofs.Tests.{by-cases}
+use Rattle.laws.proofs.Tests.{by-cases, on-either}
 use Rattle.bearers.specs.declared.Bearer.{Bearer}
 use Rattle.bearers.specs.Admission.{total, those, occurs, turnsFrom}
 
@@ -25,9 +25,13 @@ total-same f g (b ∷ bs) each same = ap₂ _+_ (same b (each .0)) (total-same f
 
 -- The same, where they agree whatever the bearer.
 pub total-equal : (f g : Bearer → ℕ) (bs : List Bearer) → ((b : Bearer) → f b ≡ g b) → total f bs ≡ total g bs
+total-equal f g bs same = λ i. total (λ b. same b i) bs
+
+-- A number that is 0 for each bearer has the sum 0.
+pub total-none : (f : Bearer → ℕ) (bs : List Bearer) → ((b : Bearer) → f b ≡ 0) → total f bs ≡ 0
 unfolding total
-total-equal f g [] same = refl
-total-equal f g (b ∷ bs) same = ap₂ _+_ (same b) (total-equal f g bs same)
+total-none f [] none = refl
+total-none f (b ∷ bs) none = omega (arith, none b, total-none f bs none)
 
 -- A number that is at most another for each bearer has at most its sum.
 pub total-le : (f g : Bearer → ℕ) (bs : List Bearer) → ((b : Bearer) → f b ≤ g b) → total f bs ≤ total g bs
@@ -35,42 +39,59 @@ unfolding total
 total-le f g [] le = omega arith
 total-le f g (b ∷ bs) le = omega (arith, le b, total-le f g bs le)
 
--- The sum of two lists, of two numbers, of none, and of those that pass a test.
+-- The sum over two lists, of two numbers, and over those that pass a test.
 pub total-append : (f : Bearer → ℕ) (xs ys : List Bearer) → total f (xs ++ ys) ≡ total f xs + total f ys
 unfolding total
 total-append f [] ys = omega arith
 total-append f (x ∷ xs) ys = omega (arith, total-append f xs ys)
-
--- That before a bearer, the bearer's own and that after it.
-pub total-split : (f : Bearer → ℕ) (before : List Bearer) (b : Bearer) (later : List Bearer) → total f (before ++ b ∷ later) ≡ total f before + (f b + total f later)
-unfolding total
-total-split f before b later = total-append f before (b ∷ later)
 
 pub total-add : (f g : Bearer → ℕ) (bs : List Bearer) → total (λ b. f b + g b) bs ≡ total f bs + total g bs
 unfolding total
 total-add f g [] = refl
 total-add f g (b ∷ bs) = omega (arith, total-add f g bs)
 
-pub total-none : (bs : List Bearer) → total (λ b. 0) bs ≡ 0
-unfolding total
-total-none [] = refl
-total-none (b ∷ bs) = omega (arith, total-none bs)
-
 pub total-those : (f : Bearer → ℕ) (test : Bearer → Bool) (bs : List Bearer) → total f (those test bs) ≡ total (λ b. cond (test b) (f b) 0) bs
 unfolding total those
 total-those f test [] = refl
 total-those f test (b ∷ bs) = by-cases (test b) (λ t. rw t (omega (arith, total-those f test bs))) (λ t. rw t (omega (arith, total-those f test bs)))
 
--- So it is at most the sum of all, and what is missing is the sum of those that fail the test.
-pub those-le : (f : Bearer → ℕ) (test : Bearer → Bool) (bs : List Bearer) → total f (those test bs) ≤ total f bs
-those-le f test bs =
-    rw (total-those f test bs)
-    (total-le (λ b. cond (test b) (f b) 0) f bs (λ b. by-cases (test b) (λ t. rw t (omega arith)) (λ t. rw t (omega arith))))
-
+-- With the sum over those that fail the test it is the sum over all, so it is at most that.
 pub those-others : (f : Bearer → ℕ) (test : Bearer → Bool) (bs : List Bearer) → total f (those test bs) + total f (those (λ b. not (test b)) bs) ≡ total f bs
 unfolding total those
 those-others f test [] = refl
 those-others f test (b ∷ bs) = by-cases (test b) (λ t. rw t (omega (arith, those-others f test bs))) (λ t. rw t (omega (arith, those-others f test bs)))
+
+pub those-le : (f : Bearer → ℕ) (test : Bearer → Bool) (bs : List Bearer) → total f (those test bs) ≤ total f bs
+those-le f test bs = omega (arith, those-others f test bs)
+
+-- ---- how often an ID occurs
+
+-- what a bearer counts among those with an ID
+abbrev pub once : ℕ → Bearer → ℕ
+once k b = cond (eqb (b .id) k) 1 0
+
+-- It counts for its own ID, and for no other.
+pub once-own : (b : Bearer) → once (b .id) b ≡ 1
+once-own b = rw (eq-eqb (b .id) (b .id) refl)
+
+pub once-other : (k : ℕ) (b : Bearer) → (b .id ≡ k → ⊥) → once k b ≡ 0
+once-other k b other = rw (ne-eqb (b .id) k other)
+
+-- Where a test comes out the same for all bearers with an ID, all of that ID pass or none.
+pub occurs-those : (k : ℕ) (test : Bearer → Bool) (kept : Bool) (bs : List Bearer) → ((b : Bearer) → b .id ≡ k → test b ≡ kept) → occurs k (those test bs) ≡ cond kept (occurs k bs) 0
+occurs-those k test kept bs same = total-those (once k) test bs ∙ total-equal _ (λ b. cond kept (once k b) 0) bs each ∙ all kept
+  where
+    each : (b : Bearer) → cond (test b) (once k b) 0 ≡ cond kept (once k b) 0
+    each b =
+        by-cases (eqb (b .id) k)
+        (λ t. rw (same b (eqb-true (b .id) k t)))
+        (λ t. rw t (on-either (test b) 0 ∙ sym (on-either kept 0)))
+
+    all : (kept : Bool) → total (λ b. cond kept (once k b) 0) bs ≡ cond kept (occurs k bs) 0
+    all true = refl
+    all false = total-none _ bs (λ b. refl)
+
+-- ---- turns
 
 -- The sum over the turns of some priorities is that over the bearers with such a priority.
 abbrev pub within : ℕ → ℕ → Bearer → Bool
@@ -92,10 +113,10 @@ within-more f p n b =
 
 pub total-turns : (f : Bearer → ℕ) (n p : ℕ) (bs : List Bearer) → total f (turnsFrom n p bs) ≡ total (λ b. cond (within p n b) (f b) 0) bs
 unfolding turnsFrom total
-total-turns f zero p bs = sym (total-equal (λ b. cond (within p 0 b) (f b) 0) (λ b. 0) bs (λ b. none p b) ∙ total-none bs)
+total-turns f zero p bs = sym (total-none _ bs none)
   where
-    none : (p : ℕ) (b : Bearer) → cond (within p 0 b) (f b) 0 ≡ 0
-    none p b =
+    none : (b : Bearer) → cond (within p 0 b) (f b) 0 ≡ 0
+    none b =
         by-cases (leb p (b .priority))
         (λ t. rw (t, le-ltb (b .priority) (p + 0) (omega (arith, leb-true p (b .priority) t))))
         (λ t. rw t)
@@ -126,9 +147,12 @@ each-at P (b ∷ bs) each zero d h = each .0
 each-at P (b ∷ bs) each (suc i) d h = each-at P bs (each .1) i d (omega arith)
 
 -- What holds of each bearer holds of the one at which the list is split, and what follows from it holds of each.
-pub each-here : (P : Bearer → Type 0) (before : List Bearer) (b : Bearer) (later : List Bearer) → Each P (before ++ b ∷ later) → P b
-each-here P [] b later each = each .0
-each-here P (x ∷ before) b later each = each-here P before b later (each .1)
+pub each-here : (P : Bearer → Type 0) {bs : List Bearer} (before : List Bearer) (b : Bearer) (later : List Bearer) → bs ≡ before ++ b ∷ later → Each P bs → P b
+each-here P before b later e each = go before (subst (Each P) e each)
+  where
+    go : (before : List Bearer) → Each P (before ++ b ∷ later) → P b
+    go [] each = each .0
+    go (x ∷ before) each = go before (each .1)
 
 pub each-map : (P Q : Bearer → Type 0) (bs : List Bearer) → ((b : Bearer) → P b → Q b) → Each P bs → Each Q bs
 each-map P Q [] f each = tt
@@ -171,7 +195,7 @@ each-append P (x ∷ xs) ys left right = (left .0, each-append P xs ys (left .1)
 pub each-occurs : (P : Bearer → Type 0) (bs : List Bearer) → ((b : Bearer) → 0 < occurs (b .id) bs → P b) → Each P bs
 unfolding total
 each-occurs P [] holds = tt
-each-occurs P (b ∷ bs) holds = (holds b (rw (eq-eqb (b .id) (b .id) refl) (omega arith)), each-occurs P bs (λ x h. holds x (omega arith)))
+each-occurs P (b ∷ bs) holds = (holds b (rw (once-own b) (omega arith)), each-occurs P bs (λ x h. holds x (omega arith)))
 
 pub those-same : (p q : Bearer → Bool) (bs : List Bearer) → ((b : Bearer) → 0 < occurs (b .id) bs → p b ≡ q b) → those p bs ≡ those q bs
 those-same p q bs same = those-each p q bs (each-occurs _ bs same)

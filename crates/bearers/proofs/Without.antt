@@ -1,6 +1,6 @@
 -- A request without one of its bearers: where that one had a turn and did not fit, the others' turns are as before.
 use Prim.Native.Nat.{ℕ, zero, suc, _+_, _≤_, _<_}
-use mathlib.Core.Path.{_≡_, refl, _∙_, sym, ap, ap₂}
+use mathlib.Core.Path.{_≡_, refl, ap, ap₂}
 use mathlib.Core.Bool.{Bool, true, false}
 use mathlib.Core.List.{List, [], _∷_, _++_}
 use borrow.Author.Tests.{eq-eqb, ne-eqb, eqb-true, eqb-false, lt-leb}
@@ -9,8 +9,8 @@ use lib.Dec.{eqb}
 use Rattle.laws.proofs.Tests.{by-cases}
 use Rattle.bearers.specs.declared.Bearer.{Bearer}
 use Rattle.bearers.specs.Admission.{total, those, occurs, standing, hasTurn, turnsFrom, turns, after, freeAt, verdict}
-use Rattle.bearers.proofs.Granted.{Distinct, once, turn-once, turns-distinct}
-use Rattle.bearers.proofs.Sums.{those-same}
+use Rattle.bearers.proofs.Granted.{Distinct, distinct-first, distinct-rest, turn-once, turns-distinct}
+use Rattle.bearers.proofs.Sums.{once, once-own, once-other, those-same}
 
 -- the second list is the first without a bearer at one of its places
 pub data Without (b : Bearer) : List Bearer → List Bearer → Type 0 where
@@ -33,7 +33,7 @@ after-both : {b : Bearer} {xs ys : List Bearer} (zs : List Bearer) → Without b
 after-both zs here = here
 after-both zs (there w) = there (after-both zs w)
 
--- The other IDs occur as often as before.
+-- Each ID occurs as often as in the list without it, and once more if it is its own.
 pub occurs-without : {b : Bearer} {xs ys : List Bearer} (k : ℕ) → Without b xs ys → occurs k xs ≡ once k b + occurs k ys
 unfolding total
 occurs-without k here = refl
@@ -41,7 +41,7 @@ occurs-without {b} k (there {x} w) = omega (arith, occurs-without k w)
 
 -- Its own occurs once less.
 occurs-own : {b : Bearer} {xs ys : List Bearer} → Without b xs ys → occurs (b .id) xs ≡ 1 + occurs (b .id) ys
-occurs-own {b} w = rw (eq-eqb (b .id) (b .id) refl) at (occurs-without (b .id) w)
+occurs-own {b} w = omega (arith, once-own b, occurs-without (b .id) w)
 
 -- Of those that pass a test only that bearer is missing, if it passes.
 those-without : {b : Bearer} {xs ys : List Bearer} (test : Bearer → Bool) → test b ≡ true → Without b xs ys → Without b (those test xs) (those test ys)
@@ -78,20 +78,14 @@ turns-without {b} {xs} {ys} (suc n) p low high w =
 
 -- A turn that does not fit can be left out: what is free at the other turns is the same.
 free-without : {b : Bearer} {xs ys : List Bearer} (k free : ℕ) → Without b xs ys → Distinct xs → (b .id ≡ k → ⊥) → freeAt xs (b .id) free < b .units → freeAt xs k free ≡ freeAt ys k free
-unfolding freeAt total
+unfolding freeAt
 free-without {b} k free (here {xs}) distinct other more =
     let left : free < b .units = rw (eq-eqb (b .id) (b .id) refl) at more in
     rw (ne-eqb (b .id) k other, lt-leb (b .units) free left)
 free-without {b} k free (there {x} {xs} w) distinct other more =
-    let own : x .id ≡ b .id → ⊥ = λ e. clash e (distinct (b .id)) in
-    let rest : Distinct xs = λ j. omega (arith, distinct j) in
+    let own : x .id ≡ b .id → ⊥ = λ e. let none : occurs (b .id) xs ≡ 0 = rw e at (distinct-first x xs distinct) in omega (arith, occurs-own w) in
     let next : freeAt xs (b .id) (after free x) < b .units = rw (ne-eqb (x .id) (b .id) own) at more in
-    by-cases (eqb (x .id) k) (λ t. rw t) (λ t. rw t (free-without k (after free x) w rest other next))
-  where
-    clash : x .id ≡ b .id → occurs (b .id) (x ∷ xs) ≤ 1 → ⊥
-    clash e d =
-        let twice : 1 + occurs (b .id) xs ≤ 1 = rw (eq-eqb (x .id) (b .id) e) at d in
-        omega (arith, occurs-own w)
+    by-cases (eqb (x .id) k) (λ t. rw t) (λ t. rw t (free-without k (after free x) w (distinct-rest x xs distinct) other next))
 
 -- ---- a request
 
@@ -99,7 +93,7 @@ module _ (gbr : ℕ → Bool) (b : Bearer) (bs rest : List Bearer) (w : Without 
   -- Whether another bearer has a turn, and which verdict it has if not, is as before.
   standing-without : (c : Bearer) → (b .id ≡ c .id → ⊥) → standing gbr (occurs (c .id) rest) c ≡ standing gbr (occurs (c .id) bs) c
   standing-without c other =
-      let same : occurs (c .id) rest ≡ occurs (c .id) bs = sym (occurs-without (c .id) w ∙ rw (ne-eqb (b .id) (c .id) other) (omega arith)) in
+      let same : occurs (c .id) rest ≡ occurs (c .id) bs = omega (arith, occurs-without (c .id) w, once-other (c .id) b other) in
       rw same
 
   module _ (turn : hasTurn gbr bs b ≡ true) where

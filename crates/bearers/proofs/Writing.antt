@@ -1,50 +1,41 @@
 -- The verdicts and the refused set, while they are written one by one.
 use Prim.Native.Nat.{ℕ, zero, suc, _+_, _≤_, _<_}
 use mathlib.Core.Path.{_≡_, refl, _∙_, sym, ap, ap₂}
-use mathlib.Core.Bool.{Bool, true, false, cond, not, _&&_, _||_}
+use mathlib.Core.Bool.{cond, not}
 use mathlib.Core.List.{List, [], _∷_, _++_, map}
 use borrow.Author.Tests.{eqb-true, eqb-false}
 use native.Mathlib.Numerals.{add-one}
 use native.Mathlib.Omega.{arith}
-use lib.Dec.{eqb, ltb}
+use lib.Dec.{eqb}
 use lib.ListN.{length, getD, set, drop, length-set}
 use lib.Seq.{drop-cons, drop-set-lt, getD-set-same, getD-set-other}
 use Rattle.laws.proofs.Tests.{by-cases}
 use Rattle.bearers.specs.declared.Bearer.{Bearer}
 use Rattle.bearers.specs.declared.Survey.{Survey}
 use Rattle.bearers.specs.Admission.{those, idsOf}
-use Rattle.bearers.specs.Sets.{add, union, member, setOf}
+use Rattle.bearers.specs.Sets.{add, union, setOf}
 use Rattle.bearers.specs.Working.{Tidy, firstsOf, written}
-use Rattle.bearers.proofs.Membership.{member-union, member-added, same-members}
+use Rattle.bearers.proofs.Membership.{union-slide}
 use Rattle.bearers.proofs.Turns.{firsts-cons}
-
--- An ID may be added to the one set or to the other.
-pub union-slide : (a b k : ℕ) → union a (add b k) ≡ union (add a k) b
-union-slide a b k =
-    same-members (union a (add b k)) (union (add a k) b)
-    (λ j. rw (member-union a (add b k) j, member-added b k j, member-union (add a k) b j, member-added a k j)
-    (slide (member a j) (ltb k 16 && eqb j k) (member b j)))
-  where
-    slide : (x y z : Bool) → (x || (y || z)) ≡ ((y || x) || z)
-    slide true true z = refl
-    slide true false z = refl
-    slide false true z = refl
-    slide false false z = refl
 
 -- One verdict more.
 pub written-more : (verdict : Bearer → ℕ) (s : Survey) (j : ℕ) (d : Bearer) (buffer : List ℕ) → Tidy s → j < s .len → written verdict (drop j (s .places)) (drop j (firstsOf s)) buffer ≡ written verdict (drop (j + 1) (s .places)) (drop (j + 1) (firstsOf s)) (set buffer (getD (s .places) j 0) (verdict (getD (s .firsts) j d)))
 unfolding written
 written-more verdict s j d buffer tidy h = rw (firsts-cons s j d tidy h, drop-cons (s .places) j 0 (omega (arith, tidy .few, tidy .places)), add-one)
 
+-- the IDs of the bearers that have a verdict other than 0
+abbrev idsRefused : (Bearer → ℕ) → List Bearer → ℕ
+idsRefused verdict bs = idsOf (those (λ b. not (eqb (verdict b) 0)) bs)
+
 -- And its ID, if it is refused.
-refused-cons : (verdict : Bearer → ℕ) (b : Bearer) (left : List Bearer) (refused all : ℕ) → union refused (idsOf (those (λ x. not (eqb (verdict x) 0)) (b ∷ left))) ≡ all → union (cond (eqb (verdict b) 0) refused (add refused (b .id))) (idsOf (those (λ x. not (eqb (verdict x) 0)) left)) ≡ all
+refused-cons : (verdict : Bearer → ℕ) (b : Bearer) (left : List Bearer) (refused all : ℕ) → union refused (idsRefused verdict (b ∷ left)) ≡ all → union (cond (eqb (verdict b) 0) refused (add refused (b .id))) (idsRefused verdict left) ≡ all
 unfolding those setOf
 refused-cons verdict b left refused all e =
     by-cases (eqb (verdict b) 0)
     (λ t. rw t (rw t at e))
-    (λ t. rw t (sym (union-slide refused (idsOf (those (λ x. not (eqb (verdict x) 0)) left)) (b .id)) ∙ rw t at e))
+    (λ t. rw t (sym (union-slide refused (idsRefused verdict left) (b .id)) ∙ rw t at e))
 
-pub refused-more : (verdict : Bearer → ℕ) (s : Survey) (j : ℕ) (d : Bearer) (refused all : ℕ) → Tidy s → j < s .len → union refused (idsOf (those (λ x. not (eqb (verdict x) 0)) (drop j (firstsOf s)))) ≡ all → union (cond (eqb (verdict (getD (s .firsts) j d)) 0) refused (add refused (getD (s .firsts) j d .id))) (idsOf (those (λ x. not (eqb (verdict x) 0)) (drop (j + 1) (firstsOf s)))) ≡ all
+pub refused-more : (verdict : Bearer → ℕ) (s : Survey) (j : ℕ) (d : Bearer) (refused all : ℕ) → Tidy s → j < s .len → union refused (idsRefused verdict (drop j (firstsOf s))) ≡ all → union (cond (eqb (verdict (getD (s .firsts) j d)) 0) refused (add refused (getD (s .firsts) j d .id))) (idsRefused verdict (drop (j + 1) (firstsOf s))) ≡ all
 refused-more verdict s j d refused all tidy h e = refused-cons verdict (getD (s .firsts) j d) (drop (j + 1) (firstsOf s)) refused all (rw (firsts-cons s j d tidy h) at e)
 
 -- A buffer that begins with the verdict of each bearer.

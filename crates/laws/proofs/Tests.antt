@@ -18,6 +18,11 @@ on-true b x y t = rw t
 pub on-false : {A : Type 0} (b : Bool) (x y : A) → b ≡ false → cond b x y ≡ y
 on-false b x y t = rw t
 
+-- A choice between the same is that, whatever the test.
+pub on-either : {A : Type 0} (b : Bool) (x : A) → cond b x x ≡ x
+on-either true x = refl
+on-either false x = refl
+
 -- Two tests are equal where each order follows from the other.
 pub same-leb : (a b c d : ℕ) → (a ≤ b → c ≤ d) → (c ≤ d → a ≤ b) → leb a b ≡ leb c d
 same-leb a b c d there back =

@@ -1,7 +1,6 @@
 -- A stream is cut into events with no byte left out and none taken twice.
 use Prim.Native.Nat.{ℕ, zero, suc, _+_, _*_, _-_, _≤_, _<_}
-use mathlib.Core.Path.{_≡_, refl, sym, ap}
-use mathlib.Core.Bool.{Bool, true, false, cond}
+use mathlib.Core.Path.{_≡_, sym, ap}
 use mathlib.Core.List.{List, [], _∷_, flatten, List·Memᴰ, List·Memᴰ·not-nil, List·Memᴰ·cases-cons}
 use mathlib.Core.Logic.{⊎-elim}
 use mathlib.Core.Option.{Option, none, some, Option·elim}
@@ -11,10 +10,8 @@ use lib.Dec.{leb}
 use lib.ListN.{length, take, drop, length-take, length-drop, take-append-drop, drop-of-length-le}
 use lib.Seq.{drop-drop}
 use Rattle.laws.proofs.Tests.{by-cases, both-true}
-use Rattle.records.specs.Record.{recordOf, roomAt}
+use Rattle.records.specs.Record.{recordAt, roomAt}
 use Rattle.records.specs.Stream.{takesBearers, bearerFirst, bearersIn, pieceAt, nextOf, eventsFrom, events}
-use Rattle.records.specs.declared.Record.{Record}
-use Rattle.records.specs.declared.stream.Piece.the-variants.{Nothing, Short, Single, Request}
 
 -- The bearers that are taken stand in the stream.
 pub bearers-within : (most : ℕ) (rest : List ℕ) → 32 * bearersIn most rest ≤ length rest
@@ -31,18 +28,17 @@ abbrev pub Onward : List ℕ → ℕ → Option ℕ → Type 0
 Onward bytes at none = length bytes ≤ at
 Onward bytes at (some next) = (at < next) × (next ≤ length bytes)
 
--- by the tests that lead to it
-onward-by : (bytes : List ℕ) (at : ℕ) (r : Record) (ended room takes : Bool) → leb (length bytes) at ≡ ended → roomAt bytes at ≡ room → Onward bytes at (nextOf (cond ended Nothing (cond room (cond takes (Request r (at + 32 + 32 * bearersIn (r .number) (drop (at + 32) bytes))) (Single r (at + 32))) (Short (length bytes)))))
-onward-by bytes at r true room takes e f = leb-true (length bytes) at e
-onward-by bytes at r false false takes e f = omega (arith, leb-false (length bytes) at e)
-onward-by bytes at r false true false e f = omega (arith, leb-true (at + 32) (length bytes) f)
-onward-by bytes at r false true true e f = omega (arith, leb-true (at + 32) (length bytes) f, rw length-drop at (bearers-within (r .number) (drop (at + 32) bytes)))
-
 -- The next place always grows and stays within the stream, so whoever goes on from place to place comes to the end.
 pub onward : (bytes : List ℕ) (at : ℕ) → Onward bytes at (nextOf (pieceAt bytes at))
 onward bytes at =
-    let r = recordOf (take 32 (drop at bytes)) in
-    onward-by bytes at r (leb (length bytes) at) (roomAt bytes at) (takesBearers r) refl refl
+    let r = recordAt bytes at in
+    by-cases (leb (length bytes) at)
+    (λ ended. rw ended (leb-true (length bytes) at ended))
+    (λ more. by-cases (roomAt bytes at)
+    (λ room. by-cases (takesBearers r)
+    (λ takes. rw (more, room, takes) (omega (arith, leb-true (at + 32) (length bytes) room, rw length-drop at (bearers-within (r .number) (drop (at + 32) bytes)))))
+    (λ single. rw (more, room, single) (omega (arith, leb-true (at + 32) (length bytes) room))))
+    (λ short. rw (more, short) (omega (arith, leb-false (length bytes) at more))))
 
 -- one event and those after it
 joined : (bytes : List ℕ) (at : ℕ) (after : ℕ → List (List ℕ)) (o : Option ℕ) → Onward bytes at o → ((next : ℕ) → at < next → flatten (after next) ≡ drop next bytes) → flatten (Option·elim o [] (λ next. take (next - at) (drop at bytes) ∷ after next)) ≡ drop at bytes
@@ -69,7 +65,7 @@ some-each : (bytes : List ℕ) (at : ℕ) (after : ℕ → List (List ℕ)) (o :
 unfolding Option·elim
 some-each bytes at after none h event ih m = absurd (List·Memᴰ·not-nil m)
 some-each bytes at after (some next) h event ih m =
-    ⊎-elim (λ e. omega (arith, rw (length-take, length-drop) at (ap length e))) (λ m. ih next m) (List·Memᴰ·cases-cons m)
+    ⊎-elim (λ e. omega (arith, rw (length-take, length-drop) at (ap length e))) (ih next) (List·Memᴰ·cases-cons m)
 
 -- No event from a place on is empty.
 pub some-from : (steps : ℕ) (bytes : List ℕ) (at : ℕ) (event : List ℕ) → List·Memᴰ event (eventsFrom steps bytes at) → 0 < length event
@@ -80,4 +76,4 @@ some-from (suc steps) bytes at event m =
 
 -- No event of a stream is empty.
 pub some-byte : (bytes event : List ℕ) → List·Memᴰ event (events bytes) → 0 < length event
-some-byte bytes event m = some-from (length bytes) bytes 0 event m
+some-byte bytes = some-from (length bytes) bytes 0

@@ -64,11 +64,15 @@ pub cuts :
 unfolding recordOf little bearersIn
 cuts = refl
 
+-- a request of 257 bearers
+abbrev tooMany : List ℕ
+tooMany = 1 ∷ replicate 11 0 ++ 1 ∷ 1 ∷ replicate 18 0
+
 -- a count of 0 or of 257 takes none: each is an event of its own
 pub cuts-none :
-    map (λ bytes. pieceAt bytes 0) ((plain 1 0 ++ plain 16 0) ∷ (1 ∷ replicate 11 0 ++ 1 ∷ 1 ∷ replicate 18 0 ++ plain 16 0) ∷ [])
+    map (λ bytes. pieceAt bytes 0) ((plain 1 0 ++ plain 16 0) ∷ (tooMany ++ plain 16 0) ∷ [])
     ≡ Single (recordOf (plain 1 0)) 32
-    ∷ Single (recordOf (1 ∷ replicate 11 0 ++ 1 ∷ 1 ∷ replicate 18 0)) 32
+    ∷ Single (recordOf tooMany) 32
     ∷ []
 unfolding recordOf little bearersIn
 cuts-none = refl

@@ -28,7 +28,7 @@ fits-64 width {value} w v =
 
 -- Taking one byte more, from the highest down.
 pub taken : (bytes : List ℕ) (at width left value : ℕ) → 0 < left → left ≤ width → at + width ≤ length bytes → value ≡ fieldAt bytes (at + left) (width - left) → value * 256 + getD bytes (at + (left - 1)) 0 ≡ fieldAt bytes (at + (left - 1)) (width - (left - 1))
-taken bytes at width left value some «in» room e =
+taken bytes at width left value some inside room e =
     let more : width - (left - 1) ≡ suc (width - left) = omega arith in
     let next : at + (left - 1) + 1 ≡ at + left = omega arith in
     rw (more, field-step bytes (at + (left - 1)) (width - left) (omega arith), next, ← e) (omega arith)

@@ -6,24 +6,23 @@ use mathlib.Core.List.{List}
 use mathlib.Core.Logic.{_⊎_, inl, inr}
 use borrow.Author.Tests.{leb-true, lt-leb}
 use native.Mathlib.Omega.{arith}
-use native.Mathlib.Nat.{add-zero}
 use lib.Dec.{leb}
-use lib.ListN.{length, take, drop, getD, length-drop}
-use lib.Seq.{drop-drop, getD-drop}
+use lib.ListN.{length, drop, length-drop}
+use lib.Seq.{drop-drop}
 use Rattle.laws.proofs.Tests.{same-leb, both-true}
-use Rattle.records.specs.Record.{recordOf, roomAt, readAt}
+use Rattle.records.specs.Record.{recordAt, roomAt, readAt}
 use Rattle.records.specs.declared.Record.{Record}
 use Rattle.records.specs.declared.Read.the-variants.{Whole, Nothing}
 use Rattle.records.specs.Stream.{bearerFirst, bearersIn, pieceOf, pieceAt}
 use Rattle.records.specs.declared.stream.Piece.the-variants.{Short}
 
--- A record stands at the front of the rest where there is room for one at the place.
-pub room-rest : (bytes : List ℕ) (at : ℕ) → leb 32 (length (drop at bytes)) ≡ roomAt bytes at
-room-rest bytes at = rw length-drop (same-leb 32 (length bytes - at) (at + 32) (length bytes) (λ h. omega arith) (λ h. omega arith))
+-- There is room for a record from a place on where as many bytes are left.
+pub room-left : (at length : ℕ) → leb 32 (length - at) ≡ leb (at + 32) length
+room-left at length = same-leb 32 (length - at) (at + 32) length (λ h. omega arith) (λ h. omega arith)
 
--- The first byte of the rest is the one at the place.
-pub first-rest : (bytes : List ℕ) (at : ℕ) → getD (drop at bytes) 0 0 ≡ getD bytes at 0
-first-rest bytes at = rw (getD-drop, add-zero)
+-- So a record stands at the front of the rest where there is room for one at the place.
+pub room-rest : (bytes : List ℕ) (at : ℕ) → leb 32 (length (drop at bytes)) ≡ roomAt bytes at
+room-rest bytes at = rw length-drop (room-left at (length bytes))
 
 -- Where a bearer stands there is room for a record.
 pub bearer-room : (bytes : List ℕ) (at : ℕ) → bearerFirst (drop at bytes) ≡ true → at + 32 ≤ length bytes
@@ -56,9 +55,9 @@ was-short false there e = refl
 -- Where a record was read, the event is that record's.
 pub piece-whole : (bytes : List ℕ) (at : ℕ) (r : Record) → at < length bytes → readAt bytes at ≡ Whole r → pieceAt bytes at ≡ pieceOf r bytes (at + 32)
 piece-whole bytes at r some e =
-    let was = was-whole (roomAt bytes at) (recordOf (take 32 (drop at bytes))) r e in
+    let was = was-whole (roomAt bytes at) (recordAt bytes at) r e in
     rw (lt-leb (length bytes) at some, was .0, was .1)
 
 -- Where bytes are left but no record was read, the event is what is left.
 pub piece-short : (bytes : List ℕ) (at : ℕ) → at < length bytes → readAt bytes at ≡ Nothing → pieceAt bytes at ≡ Short (length bytes)
-piece-short bytes at some e = rw (lt-leb (length bytes) at some, was-short (roomAt bytes at) (recordOf (take 32 (drop at bytes))) e)
+piece-short bytes at some e = rw (lt-leb (length bytes) at some, was-short (roomAt bytes at) (recordAt bytes at) e)

@@ -6,9 +6,9 @@ use mathlib.Core.List.{List, [], _∷_, _++_, append-assoc}
 use borrow.Author.Tests.{leb-true, le-leb}
 use native.Mathlib.Omega.{arith}
 use lib.Dec.{leb}
-use lib.ListN.{length, take, drop, length-append, length-take, length-drop, take-append-drop, drop-of-length-le}
-use lib.Seq.{getD-drop, drop-drop, drop-at, take-at, take-add, length-take-le}
-use Rattle.records.specs.Record.{little, littleOf, fieldAt, recordOf, bytesOf, roomAt, readAt, writtenAt, AreBytes, InRange}
+use lib.ListN.{length, take, drop, length-drop, take-append-drop, drop-of-length-le}
+use lib.Seq.{getD-drop, drop-drop, drop-at, take-append-seam, take-add, length-take-le, length-paste}
+use Rattle.records.specs.Record.{little, littleOf, fieldAt, recordOf, bytesOf, recordAt, roomAt, readAt, writtenAt, AreBytes, InRange}
 use Rattle.records.specs.declared.Record.{Record}
 use Rattle.records.specs.declared.Read.the-variants.{Whole}
 use Rattle.records.proofs.Little.{back, forth, fits}
@@ -41,22 +41,17 @@ read-back r h =
       bytes28 = back 4 (r .bytes28) (h .bytes28) i;
     }
 
--- what was put at a place of a list stands there, and the list is as long as before
-module _ (at size : ℕ) (bytes new : List ℕ) (same : length new ≡ size) (room : at + size ≤ length bytes) where
-  put-length : length (take at bytes ++ new ++ drop (at + size) bytes) ≡ length bytes
-  put-length = rw (length-append, length-append, length-take, length-drop) (omega arith)
-
-  put-there : take size (drop at (take at bytes ++ new ++ drop (at + size) bytes)) ≡ new
-  put-there =
-      let front : length (take at bytes) ≡ at = length-take-le at bytes (omega arith) in
-      rw (append-assoc (take at bytes) new (drop (at + size) bytes), drop-at (take at bytes) (new ++ drop (at + size) bytes) at front) (take-at new (drop (at + size) bytes) size same)
+-- what was put at a place of a list stands there
+put-there : (at : ℕ) (bytes new after : List ℕ) → at ≤ length bytes → take (length new) (drop at (take at bytes ++ new ++ after)) ≡ new
+put-there at bytes new after room =
+    rw (append-assoc (take at bytes) new after, drop-at (take at bytes) (new ++ after) at (length-take-le at bytes room)) (take-append-seam new after)
 
 -- A record that was written where there is room is read there.
 pub read-written : (r : Record) (bytes : List ℕ) (at : ℕ) → InRange r → at + 32 ≤ length bytes → readAt (writtenAt r bytes at) at ≡ Whole r
 read-written r bytes at h room =
     let now = take at bytes ++ bytesOf r ++ drop (at + 32) bytes in
-    let fits : roomAt now at ≡ true = le-leb (at + 32) (length now) (rw (put-length at 32 bytes (bytesOf r) refl room) room) in
-    rw (le-leb (at + 32) (length bytes) room, fits, put-there at 32 bytes (bytesOf r) refl room, read-back r h)
+    let fits : roomAt now at ≡ true = le-leb (at + 32) (length now) (rw (length-paste bytes at (bytesOf r) 32 room (omega arith)) room) in
+    rw (le-leb (at + 32) (length bytes) room, fits, put-there at bytes (bytesOf r) (drop (at + 32) bytes) (omega arith), read-back r h)
 
 -- the bytes from a place on, and from a place within them
 pub bytes-drop : (n : ℕ) (bytes : List ℕ) → AreBytes bytes → AreBytes (drop n bytes)
@@ -115,7 +110,7 @@ module _ (bytes : List ℕ) (h : AreBytes bytes) (size : length bytes ≡ 32) wh
 pub write-read : (bytes : List ℕ) (at : ℕ) (r : Record) → AreBytes bytes → readAt bytes at ≡ Whole r → writtenAt r bytes at ≡ bytes
 write-read bytes at r h e =
     let there = take 32 (drop at bytes) in
-    let was = was-whole (roomAt bytes at) (recordOf there) r e in
+    let was = was-whole (roomAt bytes at) (recordAt bytes at) r e in
     let room = leb-true (at + 32) (length bytes) (was .0) in
     let size : length there ≡ 32 = length-take-le 32 (drop at bytes) (rw length-drop (omega arith)) in
     rw (was .0, ← was .1, bytes-back there (bytes-take 32 (drop at bytes) (bytes-drop at bytes h)) size, ← take-add at 32 bytes) (take-append-drop (at + 32) bytes)

@@ -76,9 +76,13 @@ zeros =
 abbrev pub roomAt : List ℕ → ℕ → Bool
 roomAt bytes at = leb (at + 32) (length bytes)
 
+-- the record at a place
+abbrev pub recordAt : List ℕ → ℕ → Record
+recordAt bytes at = recordOf (take 32 (drop at bytes))
+
 -- what reading at a place gives
 abbrev pub readAt : List ℕ → ℕ → Read
-readAt bytes at = cond (roomAt bytes at) (Whole (recordOf (take 32 (drop at bytes)))) Nothing
+readAt bytes at = cond (roomAt bytes at) (Whole (recordAt bytes at)) Nothing
 
 -- what writing at a place leaves: "a short buffer is left as found"
 abbrev pub writtenAt : Record → List ℕ → ℕ → List ℕ

@@ -5,7 +5,7 @@ use mathlib.Core.List.{List, [], _∷_}
 use mathlib.Core.Option.{Option, none, some, Option·elim}
 use lib.Dec.{leb, eqb}
 use lib.ListN.{length, take, drop, getD}
-use Rattle.records.specs.Record.{recordOf, roomAt}
+use Rattle.records.specs.Record.{recordAt, roomAt}
 use Rattle.records.specs.declared.Record.{Record}
 use Rattle.records.specs.declared.stream.Piece.{Piece}
 use Rattle.records.specs.declared.stream.Piece.the-variants.{Nothing, Short, Single, Request}
@@ -32,7 +32,7 @@ pieceOf r bytes next =
 abbrev pub pieceAt : List ℕ → ℕ → Piece
 pieceAt bytes at =
     cond (leb (length bytes) at) Nothing
-    (cond (roomAt bytes at) (pieceOf (recordOf (take 32 (drop at bytes))) bytes (at + 32)) (Short (length bytes)))
+    (cond (roomAt bytes at) (pieceOf (recordAt bytes at) bytes (at + 32)) (Short (length bytes)))
 
 -- where the next event starts, if one stands here
 abbrev pub nextOf : Piece → Option ℕ

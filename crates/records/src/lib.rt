@@ -4,10 +4,9 @@ pub mod stream;
 
 ghost use mathlib.Core.Path.{_≡_};
 ghost use Prim.Native.Nat.{_+_, _*_, _≤_, _<_, _^_};
-ghost use mathlib.Core.List.{_++_};
-ghost use lib.ListN.{length, take};
+ghost use lib.ListN.{length};
 ghost use lib.Dec.{leb};
-ghost use Rattle.records.specs.Record.{fieldAt, littleOf, recordOf, bytesOf, zeros, readAt, roomAt, writtenAt};
+ghost use Rattle.records.specs.Record.{fieldAt, recordOf, bytesOf, zeros, readAt, roomAt, writtenAt};
 
 // How many bytes a record has.
 pub const SIZE: usize = 32;

@@ -1,3 +1,4 @@
+-- Each field is what `get` reads at its offset, and fits its width.
 use Rattle.records.specs.Record.{recordOf}
 use native.Mathlib.Omega.{arith}
 use borrow.Author.Needs.{needs}

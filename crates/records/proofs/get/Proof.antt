@@ -24,11 +24,15 @@ sub-left : tie.Need-sub-left Inv-loop μ-loop
 sub-left c = omega arith
 
 -- the number with one byte more is still one of at most eight bytes
-grows : (c : tie.After-shared-slice-known Inv-loop μ-loop) → c .before .before .loop .value * 256 + getD (c .before .before .before .args .part .now) (c .before .before .before .args .at + (c .before .before .loop .left - 1)) 0 < 2 ^ (8 * suc (c .before .before .before .args .width - c .before .before .loop .left))
-grows c = shift-in _ (c .before .before .loop .inv .2) (c .shared-slice-known .given (c .before .before .before .args .at + (c .before .before .loop .left - 1)) .fits)
+grows : (c : tie.After-shared-slice-known Inv-loop μ-loop) → let loop = c .before .before .loop in let a = c .before .before .before .args in loop .value * 256 + getD (a .part .now) (a .at + (loop .left - 1)) 0 < 2 ^ (8 * suc (a .width - loop .left))
+grows c =
+    let loop = c .before .before .loop in
+    shift-in _ (loop .inv .2) (c .shared-slice-known .given (c .before .before .before .args .at + (loop .left - 1)) .fits)
 
 mul-value : tie.Need-mul-value Inv-loop μ-loop
-mul-value c = omega (arith, fits-64 (suc (c .before .before .args .width - c .before .loop .left)) (omega arith) (shift-in _ {byte = 0} (c .before .loop .inv .2) (omega arith)))
+mul-value c =
+    let loop = c .before .loop in
+    omega (arith, fits-64 (suc (c .before .before .args .width - loop .left)) (omega arith) (shift-in _ {byte = 0} (loop .inv .2) (omega arith)))
 
 add-value : tie.Need-add-value Inv-loop μ-loop
 add-value c = omega (arith, c .before .before .good)
@@ -48,21 +52,20 @@ loop-less c = omega arith
 loop-again : tie.Need-loop-again Inv-loop μ-loop
 loop-again c =
     let a = c .before .before .before .args in
-    let left = c .before .before .loop .left in
-    let more : a .width - (left - 1) ≡ suc (a .width - left) = omega arith in (
+    let loop = c .before .before .loop in
+    let more : a .width - (loop .left - 1) ≡ suc (a .width - loop .left) = omega arith in (
       omega arith,
-      taken (a .part .now) (a .at) (a .width) left (c .before .before .loop .value) (omega arith) (omega arith) (omega arith) (c .before .before .loop .inv .1),
+      taken (a .part .now) (a .at) (a .width) (loop .left) (loop .value) (omega arith) (omega arith) (omega arith) (loop .inv .1),
       rw more (grows c),
     )
 
 returns : tie.Need-returns Inv-loop μ-loop
 returns c =
     let a = c .before .before .args in
-    let value = c .before .loop .value in
-    let inv = c .before .loop .inv in
-    let start : a .at + c .before .loop .left ≡ a .at = omega arith in
-    let whole : a .width - c .before .loop .left ≡ a .width = omega arith in
-    (rw (start, whole) at (inv .1), rw whole at (inv .2))
+    let loop = c .before .loop in
+    let start : a .at + loop .left ≡ a .at = omega arith in
+    let whole : a .width - loop .left ≡ a .width = omega arith in
+    (rw (start, whole) at (loop .inv .1), rw whole at (loop .inv .2))
 
 pub get-spec : {M : Type 1} → statement M
 get-spec =

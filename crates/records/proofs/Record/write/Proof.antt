@@ -44,10 +44,10 @@ returns c =
     let test = c .before .before .before .before .before .before in
     let a = test .before .before .before .args in
     let fits = sym (test .before .has-room .ensures) ∙ test .if1 .taken in
-    let new = c .before .before .before .before .before .bytes-of .result in
+    let made = c .before .before .before .before .before .bytes-of in
     let part = take (a .at + 32 - a .at) (drop (a .at) (a .buffer .now)) in
-    let done : c .before .before .copy .last .1 .0 ≡ new = c .before .before .copy .ensures .1 ∙ copied new part (simp (length-take, length-drop) (omega (arith, room test, ap length (c .before .before .before .before .before .bytes-of .ensures)))) in
-    (sym fits, rw (fits, done, ← c .before .before .before .before .before .bytes-of .ensures) (replaced (a .at) 32 (a .buffer .now) new))
+    let done : c .before .before .copy .last .1 .0 ≡ made .result = c .before .before .copy .ensures .1 ∙ copied (made .result) part (simp (length-take, length-drop) (omega (arith, room test, ap length (made .ensures)))) in
+    (sym fits, rw (fits, done, ← made .ensures) (replaced (a .at) 32 (a .buffer .now) (made .result)))
 
 returns-2 : tie.Need-returns-2
 returns-2 c =

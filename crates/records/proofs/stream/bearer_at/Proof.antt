@@ -5,7 +5,8 @@ use Prim.Native.Nat.{_+_}
 use mathlib.Core.Path.{sym, _∙_}
 use native.Mathlib.Omega.{arith}
 use lib.ListN.{length}
-use Rattle.records.proofs.Rest.{room-rest, first-rest}
+use Rattle.laws.proofs.Lists.{first-left}
+use Rattle.records.proofs.Rest.{room-rest}
 use Rattle.records.proofs.stream.bearer_at.Statement.{statement}
 use Rattle.records.proofs.stream.bearer_at.Tie as tie
 
@@ -22,7 +23,7 @@ returns : tie.Need-returns
 returns c =
     let test = c .before in
     let a = test .before .before .before .args in
-    rw (room-rest (a .bytes .now) (a .at), sym (test .before .has-room .ensures) ∙ test .if1 .taken, first-rest (a .bytes .now) (a .at))
+    rw (room-rest (a .bytes .now) (a .at), sym (test .before .has-room .ensures) ∙ test .if1 .taken, first-left (a .at) (a .bytes .now) 0)
 
 returns-2 : tie.Need-returns-2
 returns-2 c =
