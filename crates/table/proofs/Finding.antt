@@ -1,6 +1,6 @@
 -- How a walk over the table goes on from a place, what it finds, and what stands at each place once one record is replaced.
 use Prim.Native.Nat.{ℕ, suc, _+_, _≤_, _<_}
-use mathlib.Core.Path.{_≡_, refl, sym}
+use mathlib.Core.Path.{_≡_, refl, sym, _∙_}
 use mathlib.Core.Bool.{Bool, true, false, _&&_, _||_}
 use mathlib.Core.List.{List, [], _∷_}
 use borrow.Author.Tests.{eqb-true, eqb-false}
@@ -18,43 +18,54 @@ use Rattle.table.specs.declared.Found.the-variants.{At, Nothing}
 use Rattle.table.specs.declared.Station.{Station}
 use Rattle.table.specs.Events.{key}
 use Rattle.table.specs.Numbers.{isFree, blank, anyOf}
-use Rattle.table.specs.Table.{find, findFrom, dueBy, sooner, betterBy, placeOf, dueFrom}
+use Rattle.table.specs.Table.{find, findFrom, dueBy, sooner, betterBy, placeOf, dueFrom, soonest}
 
-module _ (rs : List Entry) (i : ℕ) (d : Entry) where
+-- ---- a walk that comes to from a place on what it comes to in all
+
+module _ (s : Station) (places : length (s .entries) ≡ 64) (i : ℕ) where
   -- The first place at which a test holds is here, or further on, or nowhere.
-  pub find-here : (test : Entry → Bool) → i < length rs → test (getD rs i d) ≡ true → findFrom test i (drop i rs) ≡ At i
-  unfolding findFrom
-  find-here test h t = rw (drop-cons rs i d h, t)
+  module _ (test : Entry → Bool) (left : findFrom test i (drop i (s .entries)) ≡ find test s) where
+    pub find-here : i < 64 → test (getD (s .entries) i blank) ≡ true → find test s ≡ At i
+    unfolding findFrom
+    find-here h t = sym left ∙ rw (drop-cons (s .entries) i blank (omega (arith, places)), t)
 
-  pub find-past : (test : Entry → Bool) → i < length rs → test (getD rs i d) ≡ false → findFrom test i (drop i rs) ≡ findFrom test (i + 1) (drop (i + 1) rs)
-  unfolding findFrom
-  find-past test h t = rw (drop-cons rs i d h, t, add-one)
+    pub find-past : i < 64 → test (getD (s .entries) i blank) ≡ false → findFrom test (i + 1) (drop (i + 1) (s .entries)) ≡ find test s
+    unfolding findFrom
+    find-past h t =
+        let on : findFrom test i (drop i (s .entries)) ≡ findFrom test (i + 1) (drop (i + 1) (s .entries)) = rw (drop-cons (s .entries) i blank (omega (arith, places)), t, add-one) in
+        sym on ∙ left
 
-  pub find-end : (test : Entry → Bool) → length rs ≤ i → findFrom test i (drop i rs) ≡ Nothing
-  unfolding findFrom
-  find-end test h = rw (drop-of-length-le rs h)
+    pub find-end : 64 ≤ i → find test s ≡ Nothing
+    unfolding findFrom
+    find-end h = sym left ∙ rw (drop-of-length-le (s .entries) {i = i} (omega (arith, places)))
 
-  -- A test holds of some record from here on if it holds here or further on.
-  pub any-here : (test : Entry → Bool) → i < length rs → test (getD rs i d) ≡ true → anyOf test (drop i rs) ≡ true
-  unfolding anyOf
-  any-here test h t = rw (drop-cons rs i d h, t)
+  -- A test holds of some record if it holds here or further on.
+  module _ (test : Entry → Bool) (left : anyOf test (drop i (s .entries)) ≡ anyOf test (s .entries)) where
+    pub any-here : i < 64 → test (getD (s .entries) i blank) ≡ true → anyOf test (s .entries) ≡ true
+    unfolding anyOf
+    any-here h t = sym left ∙ rw (drop-cons (s .entries) i blank (omega (arith, places)), t)
 
-  pub any-past : (test : Entry → Bool) → i < length rs → test (getD rs i d) ≡ false → anyOf test (drop i rs) ≡ anyOf test (drop (i + 1) rs)
-  unfolding anyOf
-  any-past test h t = rw (drop-cons rs i d h, t, add-one)
+    pub any-past : i < 64 → test (getD (s .entries) i blank) ≡ false → anyOf test (drop (i + 1) (s .entries)) ≡ anyOf test (s .entries)
+    unfolding anyOf
+    any-past h t =
+        let on : anyOf test (drop i (s .entries)) ≡ anyOf test (drop (i + 1) (s .entries)) = rw (drop-cons (s .entries) i blank (omega (arith, places)), t, add-one) in
+        sym on ∙ left
 
-  pub any-end : (test : Entry → Bool) → length rs ≤ i → anyOf test (drop i rs) ≡ false
-  unfolding anyOf
-  any-end test h = rw (drop-of-length-le rs h)
+    pub any-end : 64 ≤ i → anyOf test (s .entries) ≡ false
+    unfolding anyOf
+    any-end h = sym left ∙ rw (drop-of-length-le (s .entries) {i = i} (omega (arith, places)))
 
   -- The soonest so far, with the record here looked at.
-  pub due-past : (e : Record) (best : Best) → i < length rs → dueFrom e best i (drop i rs) ≡ dueFrom e (betterBy (key (e .kind)) e i (getD rs i d) best) (i + 1) (drop (i + 1) rs)
-  unfolding dueFrom
-  due-past e best h = rw (drop-cons rs i d h, ← add-one i)
+  module _ (e : Record) (best : Best) (left : dueFrom e best i (drop i (s .entries)) ≡ soonest e s) where
+    pub due-past : i < 64 → dueFrom e (betterBy (key (e .kind)) e i (getD (s .entries) i blank) best) (i + 1) (drop (i + 1) (s .entries)) ≡ soonest e s
+    unfolding dueFrom
+    due-past h =
+        let on : dueFrom e best i (drop i (s .entries)) ≡ dueFrom e (betterBy (key (e .kind)) e i (getD (s .entries) i blank) best) (i + 1) (drop (i + 1) (s .entries)) = rw (drop-cons (s .entries) i blank (omega (arith, places)), ← add-one i) in
+        sym on ∙ left
 
-  pub due-end : (e : Record) (best : Best) → length rs ≤ i → dueFrom e best i (drop i rs) ≡ placeOf best
-  unfolding dueFrom
-  due-end e best h = rw (drop-of-length-le rs h)
+    pub due-end : 64 ≤ i → soonest e s ≡ placeOf best
+    unfolding dueFrom
+    due-end h = sym left ∙ rw (drop-of-length-le (s .entries) {i = i} (omega (arith, places)))
 
 -- ---- what is found
 

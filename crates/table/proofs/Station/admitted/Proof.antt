@@ -43,9 +43,10 @@ enum-known-judged c = search needs
 
 grant-requires : tie.Need-grant-requires
 grant-requires c κs =
-    let a = c .before .before .before .before .before .before .before .before .before .before .before .before .before .before .args in (
+    let a = c .before .before .before .before .before .before .before .before .before .before .before .before .before .before .args in
+    let free = a .self .capacity - a .self .used in (
       found-place (a .self) (c .before .before .before .before .before .before .before .before .before .before .before .before .before .before .pre) isFree _ (here (c .before .before .before .before .before .before .before .before)),
-      subst (λ (x : Admission). x .units ≤ a .self .capacity - a .self .used) (judged c .1) (units-free (a .bearers .now) (a .self .capacity - a .self .used) (length (a .verdicts .now)) (judged c .0)),
+      subst (λ (x : Admission). x .units ≤ free) (judged c .1) (units-free (a .bearers .now) free (length (a .verdicts .now)) (judged c .0)),
       c .before .before .before .before .before .before .before .before .before .before .before .before .before .before .pre,
     )
 
@@ -65,10 +66,13 @@ same-length : tie.Need-same-length
 same-length c = search needs
 
 returns : tie.Need-returns
-returns c = (
-  rw (judged (c .before) .0, here (c .before .before .before .before .before .before .before .before .before)) (c .grant .ensures ∙ ap (λ (x : Admission). grantAt (c .before .before .before .before .before .before .before .before .before .before .before .before .before .before .before .args .e) x (c .before .before .before .before .before .before .before .before .before .before .found .given .0 .0) (c .before .before .before .before .before .before .before .before .before .before .before .before .before .before .before .args .self)) (sym (judged (c .before) .1))),
-  rw (judged (c .before) .0, here (c .before .before .before .before .before .before .before .before .before)) (c .before .before .before .before .before .before .admit .ensures .1 ∙ rw (judged (c .before) .0)),
-)
+returns c =
+    let a = c .before .before .before .before .before .before .before .before .before .before .before .before .before .before .before .args in
+    let could = judged (c .before) .0 in
+    let place = here (c .before .before .before .before .before .before .before .before .before) in (
+      rw (could, place) (c .grant .ensures ∙ ap (λ (x : Admission). grantAt (a .e) x (c .before .before .before .before .before .before .before .before .before .before .found .given .0 .0) (a .self)) (sym (judged (c .before) .1))),
+      rw (could, place) (c .before .before .before .before .before .before .admit .ensures .1 ∙ rw could),
+    )
 
 same-length-2 : tie.Need-same-length-2
 same-length-2 c = search needs
@@ -76,8 +80,9 @@ same-length-2 c = search needs
 returns-2 : tie.Need-returns-2
 returns-2 c =
     let a = c .before .before .before .before .before .before .before .before .before .before .before .before .before .before .args in
-    let bad = malformed (a .bearers .now) (a .self .capacity - a .self .used) (length (a .verdicts .now)) (sym (c .before .before .before .before .before .admit .ensures .0) ∙ c .before .enum-told .given .1) in
-    (rw (bad, c .quiet .ensures), rw bad (c .before .before .before .before .before .admit .ensures .1 ∙ rw bad))
+    let admit = c .before .before .before .before .before .admit .ensures in
+    let bad = malformed (a .bearers .now) (a .self .capacity - a .self .used) (length (a .verdicts .now)) (sym (admit .0) ∙ c .before .enum-told .given .1) in
+    (rw (bad, c .quiet .ensures), rw bad (admit .1 ∙ rw bad))
 
 same-length-3 : tie.Need-same-length-3
 same-length-3 c = search needs
