@@ -70,12 +70,12 @@ module _ (s : Station) (sound : Sound s) (p i n j : ℕ) (place : j < 64) (its :
       (λ k found.
       found ∙ ap At (about-once (release p i n) (omega arith) (omega arith) s sound k j (found-place s sound its-own k found) place (found-here its-own s k found .1) mine))
 
-  -- Where its place is free, no record has its own ID.
-  gone : Sound (put j blank s) → named i (put j blank s) ≡ blank
-  gone after =
-      named-none (put j blank s) after i
-      (set-each (λ k x. k < 64 → ownIs i x ≡ false) (s .entries) j blank (omega (arith, sound .places)) (λ _. refl)
-      (λ k apart h. by-cases (ownIs i (getD (s .entries) k blank)) (λ u. absurd (apart (own-sole s sound i k j h place u its))) (λ u. u)))
+-- Where its place is free, no record has its own ID.
+gone : (s : Station) → Sound s → (i j : ℕ) → j < 64 → ownIs i (getD (s .entries) j blank) ≡ true → Sound (put j blank s) → named i (put j blank s) ≡ blank
+gone s sound i j place its after =
+    named-none (put j blank s) after i
+    (set-each (λ k x. k < 64 → ownIs i x ≡ false) (s .entries) j blank (omega (arith, sound .places)) (λ _. refl)
+    (λ k apart h. by-cases (ownIs i (getD (s .entries) k blank)) (λ u. absurd (apart (own-sole s sound i k j h place u its))) (λ u. u)))
 
 module _ {s : Station} (reached : Reached s) (bearers : List ℕ) (room : ℕ) where
   -- So the record is moved.
@@ -94,7 +94,7 @@ module _ {s : Station} (reached : Reached s) (bearers : List ℕ) (room : ℕ) w
       rw (used-in-range 31 p (omega (arith, small, eqb-true (x .neighbour) p (seen .1))), used-in-range 4095 i (omega (arith, mine, sound reached .fit j (there .1) .id)), used-in-range 4095 n (omega (arith, small, seen .2))) in
       let step = row-step s (release p i n) bearers room formed j 5 refl (release-finds s (sound reached) p i n j (there .1) (there .2) (seen .0) (seen .1) (seen .2)) (seen .0) in
       let after : Sound (put j blank s) = rw step at (sound-step (sound reached) (release p i n) bearers room) in
-      rw step (rw (gone s (sound reached) p i n j (there .1) (there .2) (seen .0) (seen .1) (seen .2) after), refl))
+      rw step (rw (gone s (sound reached) i j (there .1) (there .2) after), refl))
       (λ free. absurd (false≢true (ap someOut (rw (free .1) at prepared))))
       (named-at s (sound reached) i)
 

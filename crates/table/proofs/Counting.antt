@@ -118,7 +118,7 @@ own-itself r used = rw (own-equal (own r) r, used, eq-eqb (own r) (own r) refl)
 own-times : (k : ℕ) (r : Entry) → ownTimes k r ≤ is (own r) k
 own-times k r = once-le (ownIs k r) (eqb k (own r)) (own-is k r)
 
--- Of 64 numbers a record has at most one for its own.
+-- Of the numbers passed a record has at most one for its own, and a free place none.
 few-own : (n c : ℕ) (r : Entry) → Fit r → c < 4096 → n ≤ 4096 → along (λ k. ownTimes k r) n c + cond (isFree r) 1 0 ≤ 1
 few-own n c r fit small few =
     by-cases (isFree r)

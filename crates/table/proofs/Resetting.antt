@@ -59,12 +59,12 @@ tally-next : (g : Entry → ℕ) (es : List Entry) (i : ℕ) → i < length es �
 unfolding tally
 tally-next g es i h = rw (add-one, take-suc es i blank h, tally-append g (take i es) (getD es i blank ∷ [])) (omega arith)
 
-module _ (e : Record) (s : Station) (sound : Sound s) where
-  -- Before the first place nothing is reset, after the last all.
-  pub partly-none : s ≡ partly e 0 s
-  unfolding tally
-  partly-none = same-station s refl (omega arith)
+-- Before the first place nothing is reset, after the last all.
+pub partly-none : (e : Record) (s : Station) → s ≡ partly e 0 s
+unfolding tally
+partly-none e s = same-station s refl (omega arith)
 
+module _ (e : Record) (s : Station) (sound : Sound s) where
   pub partly-all : partly e 64 s ≡ reset e s
   partly-all =
       let all : length (s .entries) ≤ 64 = omega (arith, sound .places) in

@@ -26,6 +26,7 @@ use Rattle.table.proofs.Finding.{at-nothing, by-found}
 use Rattle.table.proofs.Keys.{keyed-means}
 use Rattle.table.proofs.Rows.{early-step, tick-step, due-ends}
 use Rattle.table.proofs.Tally.{tally-le, tally-set, tally-each, tally-none, once-le}
+use Rattle.table.proofs.Tests.{neither}
 
 -- ---- the order: by deadline, then by own ID
 
@@ -87,6 +88,12 @@ record Ended (e : Record) (best : Best) (i k : ℕ) (rs : List Entry) : Type 0 w
   first : (j : ℕ) → j < length rs → due e (getD rs j blank) ≡ true → sooner (getD rs j blank) entry ≡ false
 
 module _ (e : Record) (busy : (r : Entry) → due e r ≡ true → isFree r ≡ false) where
+  -- What holds of the first record and of those after it holds of all.
+  each : (r : Entry) (rs : List Entry) (entry : Entry) → (due e r ≡ true → sooner r entry ≡ false) → ((j : ℕ) → j < length rs → due e (getD rs j blank) ≡ true → sooner (getD rs j blank) entry ≡ false)
+      → (j : ℕ) → j < suc (length rs) → due e (getD (r ∷ rs) j blank) ≡ true → sooner (getD (r ∷ rs) j blank) entry ≡ false
+  each r rs entry here on zero h u = here u
+  each r rs entry here on (suc j) h u = on j (omega arith) u
+
   -- One step of the walk, where the record is the best so far, and where it is not.
   taken : (r : Entry) (rs : List Entry) (best : Best) (i k : ℕ) → due e r ≡ true → (isFree (best .entry) || sooner r (best .entry)) ≡ true → Ended e (record { place = i; entry = r }) (i + 1) k rs → Ended e best i k (r ∷ rs)
   taken r rs best i k d t end =
@@ -98,12 +105,8 @@ module _ (e : Record) (busy : (r : Entry) → due e r ≡ true → isFree r ≡ 
             (λ on. inr (suc (on .0), omega (arith, on .1), omega (arith, on .2), on .3, on .4))
             (end .stands);
         past = λ f. not-sooner-trans (best .entry) r (end .entry) (sooner-asym r (best .entry) (rw f at t)) (end .past (busy r d));
-        first = first;
+        first = each r rs (end .entry) (λ _. end .past (busy r d)) (end .first);
       }
-    where
-      first : (j : ℕ) → j < suc (length rs) → due e (getD (r ∷ rs) j blank) ≡ true → sooner (getD (r ∷ rs) j blank) (end .entry) ≡ false
-      first zero h u = end .past (busy r d)
-      first (suc j) h u = end .first j (omega arith) u
 
   passed : (r : Entry) (rs : List Entry) (best : Best) (i k : ℕ) → (due e r && (isFree (best .entry) || sooner r (best .entry))) ≡ false → Ended e best (i + 1) k rs → Ended e best i k (r ∷ rs)
   passed r rs best i k t end =
@@ -115,15 +118,12 @@ module _ (e : Record) (busy : (r : Entry) → due e r ≡ true → isFree r ≡ 
             (λ on. inr (suc (on .0), omega (arith, on .1), omega (arith, on .2), on .3, on .4))
             (end .stands);
         past = end .past;
-        first = first;
+        first = each r rs (end .entry)
+            (λ u.
+            let left = neither (isFree (best .entry)) (sooner r (best .entry)) (rw u at t) in
+            not-sooner-trans r (best .entry) (end .entry) (left .1) (end .past (left .0)))
+            (end .first);
       }
-    where
-      first : (j : ℕ) → j < suc (length rs) → due e (getD (r ∷ rs) j blank) ≡ true → sooner (getD (r ∷ rs) j blank) (end .entry) ≡ false
-      first zero h u =
-          let left : (isFree (best .entry) || sooner r (best .entry)) ≡ false = rw u at t in
-          by-cases (isFree (best .entry)) (λ f. absurd (true≢false (rw f at left)))
-          (λ f. not-sooner-trans r (best .entry) (end .entry) (rw f at left) (end .past f))
-      first (suc j) h u = end .first j (omega arith) u
 
   walked : (rs : List Entry) (best : Best) (i k : ℕ) → dueFrom e best i rs ≡ At k → Ended e best i k rs
   unfolding dueFrom

@@ -136,6 +136,24 @@ last-other e r =
     (λ t. by-cases (eqb (e .kind) 15 && eqb (r .state) 1) (λ u. rw (t, u))
     (λ u. by-cases (eqb (e .kind) 15 && eqb (r .state) 2) (λ v. rw (t, u, v)) (λ v. rw (t, u, v))))
 
+module _ (s : Station) (e : Record) where
+  -- A refusal leaves all records as they were.
+  refused-turned : (n : ℕ) → Turned s e (refused n s)
+  refused-turned n = record { last = refl; change = λ j h. stays; says = other refl }
+
+  -- A reset ends every record that it is about.
+  reset-turned : isReset (e .kind) ≡ true → Turned s e (resetOf e s)
+  reset-turned kinds =
+      record {
+        last = refl;
+        change = λ j h.
+            rw (reset-at e s j)
+            (by-cases (about e (getD (s .entries) j blank))
+            (λ t. rw t (ends (reset-kind (λ k. k ≡ 2 → ⊥) (e .kind) (λ z. omega arith) (λ z. omega arith) kinds) (by-other refl)))
+            (λ t. rw t stays));
+        says = other (by-cases (eqb (e .kind) 7) (λ t. rw t) (λ t. rw t));
+      }
+
 module _ (s : Station) (sound : Sound s) (e : Record) where
   -- A decision about one record changes that one.
   put-turned : (i : ℕ) → i < 64 → (d : Decision) → Change e (d .ending) (getD (s .entries) i blank) (d .entry) → Says (s .entries) e (d .reply) (d .message) → Turned s e (carried i d s)
@@ -159,31 +177,14 @@ module _ (s : Station) (sound : Sound s) (e : Record) where
       (λ eleven three. put-turned i place _ (serves three) (releases i place eleven three (same-new e r mine 11 eleven refl refl refl) refl refl))
       (λ none. put-turned i place _ (ended e r mine (actionOf (e .kind) (r .state)) (finals (e .kind) (r .state)) none) (other (last-other e r)))
 
-  -- A refusal leaves all records as they were.
-  refused-turned : (n : ℕ) → Turned s e (refused n s)
-  refused-turned n = record { last = refl; change = λ j h. stays; says = other refl }
-
-  -- A reset ends every record that it is about.
-  reset-turned : isReset (e .kind) ≡ true → Turned s e (resetOf e s)
-  reset-turned kinds =
-      record {
-        last = refl;
-        change = λ j h.
-            rw (reset-at e s j)
-            (by-cases (about e (getD (s .entries) j blank))
-            (λ t. rw t (ends (reset-kind (λ k. k ≡ 2 → ⊥) (e .kind) (λ z. omega arith) (λ z. omega arith) kinds) (by-other refl)))
-            (λ t. rw t stays));
-        says = other (by-cases (eqb (e .kind) 7) (λ t. rw t) (λ t. rw t));
-      }
-
 module _ (s : Station) (sound : Sound s) (e : Record) (bearers : List ℕ) (room : ℕ) where
   turn-of : {a : Answer} → Part s e bearers room a → Turn s e a
-  turn-of (as-refusal n _ _) = turns (refused-turned s sound e n)
-  turn-of (as-response _) = turns (refused-turned s sound e 0)
+  turn-of (as-refusal n _ _) = turns (refused-turned s e n)
+  turn-of (as-response _) = turns (refused-turned s e 0)
   turn-of (as-failure n _ _ one) = turns (record { last = refl; change = λ j h. stays; says = refuses n one refl })
   turn-of (as-grant k formed one _ _ free) = admits k free formed one (admission (taken e bearers) s)
   turn-of (as-start k formed nine free) = starts k free formed nine
-  turn-of (as-reset kinds) = turns (reset-turned s sound e kinds)
+  turn-of (as-reset kinds) = turns (reset-turned s e kinds)
   turn-of (as-idle _ _) = turns (record { last = refl; change = λ j h. stays; says = other refl })
   turn-of (as-tick i formed fifteen found) =
       -- the clock is no matter here

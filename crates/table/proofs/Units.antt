@@ -114,6 +114,14 @@ reset-held e r reset fit =
     rw u (fit .units outgoing))
     (λ u. rw u))))
 
+module _ (s : Station) (sound : Sound s) (e : Record) where
+  -- What a reset takes back is what the held records of its neighbour have, and at most what is in use.
+  reset-back : isReset (e .kind) ≡ true → (tally (backOf e) (s .entries) ≡ tally (heldUnits e) (s .entries)) × (tally (backOf e) (s .entries) ≤ s .used)
+  reset-back kinds = (
+    tally-equal (backOf e) (heldUnits e) (s .entries) (λ i h. reset-held e (getD (s .entries) i blank) kinds (sound .fit i (omega (arith, sound .places)))),
+    omega (arith, sound .sum, tally-le (backOf e) (λ r. r .units) (s .entries) (s .entries) refl (λ i _. back-le e (getD (s .entries) i blank))),
+  )
+
 -- ---- one step
 
 module _ (s : Station) (sound : Sound s) (e : Record) (bearers : List ℕ) where
@@ -134,13 +142,6 @@ module _ (s : Station) (sound : Sound s) (e : Record) (bearers : List ℕ) where
       (λ _ _. record { units = rw other (omega arith); nothing = λ f. absurd (true≢false f) })
       (λ gone. record { units = rw (leaves-all (actionOf (e .kind) (r .state)) gone, frees gone, other) (omega arith); nothing = λ f. absurd (true≢false f) })
 
-  -- What a reset takes back is what the held records of its neighbour have, and at most what is in use.
-  reset-back : isReset (e .kind) ≡ true → (tally (backOf e) (s .entries) ≡ tally (heldUnits e) (s .entries)) × (tally (backOf e) (s .entries) ≤ s .used)
-  reset-back kinds = (
-    tally-equal (backOf e) (heldUnits e) (s .entries) (λ i h. reset-held e (getD (s .entries) i blank) kinds (sound .fit i (omega (arith, sound .places)))),
-    omega (arith, sound .sum, tally-le (backOf e) (λ r. r .units) (s .entries) (s .entries) refl (λ i _. back-le e (getD (s .entries) i blank))),
-  )
-
   -- Every part of a step accounts for the units: a preparing record has none.
   part-accounts : {room : ℕ} {a : Answer} → Part s e bearers room a → Accounts a e bearers s
   part-accounts (as-refusal n low _) = record { units = rw (ne-eqb n 0 (λ z. omega arith)) (omega arith); nothing = λ _. refl }
@@ -151,7 +152,7 @@ module _ (s : Station) (sound : Sound s) (e : Record) (bearers : List ℕ) where
   part-accounts (as-reset kinds) =
       let frees : freed e s ≡ tally (heldUnits e) (s .entries) = reset-kind (λ k. freedBy k e s ≡ tally (heldUnits e) (s .entries)) (e .kind) refl refl kinds in
       let other : eqb (e .kind) 1 ≡ false = reset-kind (λ k. eqb k 1 ≡ false) (e .kind) refl refl kinds in
-      record { units = rw (frees, other) (omega (arith, reset-back kinds)); nothing = λ f. absurd (true≢false f) }
+      record { units = rw (frees, other) (omega (arith, reset-back s sound e kinds)); nothing = λ f. absurd (true≢false f) }
   part-accounts (as-idle _ _) = record { units = omega arith; nothing = λ _. refl }
   part-accounts (as-tick i _ fifteen found) =
       carried-accounts i 0 (e .time) (due-place s sound e i found) (rw fifteen)
@@ -245,4 +246,4 @@ module _ (s : Station) (sound : Sound s) (e : Record) (bearers : List ℕ) (room
   pub units-reset : wellFormed e ≡ true → isReset (e .kind) ≡ true → stepOf s e bearers room .station .used + tally (heldUnits e) (s .entries) ≡ s .used
   units-reset formed kinds =
       subst (λ (a : Answer). a .station .used + tally (heldUnits e) (s .entries) ≡ s .used) (sym (step-reset s e bearers room formed kinds))
-      (omega (arith, reset-back s sound e bearers kinds))
+      (omega (arith, reset-back s sound e kinds))

@@ -36,7 +36,7 @@ array-copy-out-key : tie.Need-array-copy-out-key Inv-loop μ-loop
 array-copy-out-key c = search needs
 
 loop-holds : tie.Need-loop-holds Inv-loop μ-loop
-loop-holds c = (omega arith, partly-none (c .before .before .args .e) (c .before .before .args .t1) (c .before .before .pre .1))
+loop-holds c = (omega arith, partly-none (c .before .before .args .e) (c .before .before .args .t1))
 
 mul-r : tie.Need-mul-r Inv-loop μ-loop
 mul-r c = search needs

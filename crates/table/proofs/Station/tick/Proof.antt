@@ -78,8 +78,9 @@ loop-again : tie.Need-loop-again Inv-loop μ-loop
 loop-again c =
     let a = c .before .before .before .before .before .before .before .before .before .before .args in
     let l = c .before .before .before .before .loop in
+    let sooner = sym (c .before .is-sooner .ensures) in
     let next : c .if2 .best ≡ betterBy (key (a .e .kind)) (a .e) (l .i) (getD (a .t1 .entries) (l .i) blank) (l .best) =
-    ⊎-elim (λ t. t .1 ∙ sym (rw (sym (c .before .is-sooner .ensures) ∙ t .0 .taken))) (λ t. t .1 ∙ sym (rw (sym (c .before .is-sooner .ensures) ∙ t .0 .left))) (c .if2 .came) in
+    ⊎-elim (λ t. rw (sooner ∙ t .0 .taken) (t .1)) (λ t. rw (sooner ∙ t .0 .left) (t .1)) (c .if2 .came) in
     (omega arith, ap (λ (b : Best). dueFrom (a .e) b (l .i + 1) (drop (l .i + 1) (a .t1 .entries))) next ∙ due-past (a .t1) (c .before .before .before .before .before .before .before .before .before .before .pre .1 .places) (l .i) (a .e) (l .best) (l .inv .1) (c .before .before .before .loop-test .taken))
 
 quiet-requires-2 : tie.Need-quiet-requires-2 Inv-loop μ-loop
