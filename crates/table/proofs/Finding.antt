@@ -20,7 +20,7 @@ use Rattle.table.specs.Events.{key}
 use Rattle.table.specs.Numbers.{isFree, blank, anyOf}
 use Rattle.table.specs.Table.{find, findFrom, dueBy, sooner, betterBy, placeOf, dueFrom, soonest}
 
--- ---- a walk that comes to from a place on what it comes to in all
+-- ---- a walk whose outcome from a place on is its outcome in all
 
 module _ (s : Station) (places : length (s .entries) ≡ 64) (i : ℕ) where
   -- The first place at which a test holds is here, or further on, or nowhere.
@@ -31,9 +31,7 @@ module _ (s : Station) (places : length (s .entries) ≡ 64) (i : ℕ) where
 
     pub find-past : i < 64 → test (getD (s .entries) i blank) ≡ false → findFrom test (i + 1) (drop (i + 1) (s .entries)) ≡ find test s
     unfolding findFrom
-    find-past h t =
-        let on : findFrom test i (drop i (s .entries)) ≡ findFrom test (i + 1) (drop (i + 1) (s .entries)) = rw (drop-cons (s .entries) i blank (omega (arith, places)), t, add-one) in
-        sym on ∙ left
+    find-past h t = rw (add-one i) (rw (drop-cons (s .entries) i blank (omega (arith, places)), t, add-one i) at left)
 
     pub find-end : 64 ≤ i → find test s ≡ Nothing
     unfolding findFrom
@@ -47,9 +45,7 @@ module _ (s : Station) (places : length (s .entries) ≡ 64) (i : ℕ) where
 
     pub any-past : i < 64 → test (getD (s .entries) i blank) ≡ false → anyOf test (drop (i + 1) (s .entries)) ≡ anyOf test (s .entries)
     unfolding anyOf
-    any-past h t =
-        let on : anyOf test (drop i (s .entries)) ≡ anyOf test (drop (i + 1) (s .entries)) = rw (drop-cons (s .entries) i blank (omega (arith, places)), t, add-one) in
-        sym on ∙ left
+    any-past h t = rw (add-one i) (rw (drop-cons (s .entries) i blank (omega (arith, places)), t) at left)
 
     pub any-end : 64 ≤ i → anyOf test (s .entries) ≡ false
     unfolding anyOf
