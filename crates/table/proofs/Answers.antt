@@ -1,20 +1,18 @@
 -- What the event of a prepared record's release does, and what a tick with reply 9 shows, by the record's own ID.
 use Prim.Native.Nat.{ℕ, _<_}
 use mathlib.Core.Path.{_≡_, refl, sym, ap, _∙_, subst}
-use mathlib.Core.Bool.{true, _&&_, true≢false, false≢true}
+use mathlib.Core.Bool.{true, false, _&&_, true≢false, false≢true}
 use mathlib.Core.Logic.{⊎-elim}
 use mathlib.Core.List.{List}
-use mathlib.Core.Option.{none, some}
-use borrow.Author.Tests.{eqb-true, eqb-false, eq-eqb, leb-false}
+use mathlib.Core.Option.{some, Option·none-ne-some}
+use borrow.Author.Tests.{eqb-true, eq-eqb, leb-false}
 use native.Mathlib.Omega.{arith}
 use lib.Dec.{leb, eqb}
 use lib.ListN.{getD}
-use lib.Seq.{getD-set-same, getD-set-other}
 use Rattle.laws.proofs.Tests.{by-cases, both-true}
 use Rattle.records.specs.declared.Record.{Record}
 use Rattle.table.specs.declared.Entry.{Entry}
-use Rattle.table.specs.declared.Found.{Found}
-use Rattle.table.specs.declared.Found.the-variants.{At, Nothing}
+use Rattle.table.specs.declared.Found.the-variants.{At}
 use Rattle.table.specs.declared.Station.{Station}
 use Rattle.table.specs.Events.{about, message}
 use Rattle.table.specs.Fields.{wellFormed}
@@ -23,16 +21,16 @@ use Rattle.table.specs.Reached.{Reached}
 use Rattle.table.specs.Sound.{Sound}
 use Rattle.table.specs.Step.{stepOf}
 use Rattle.table.specs.Table.{find, put}
-use Rattle.table.specs.Views.{NotOut, Preparing, Prepared, outOf, dueOf, named, out, due, ending}
+use Rattle.table.specs.Views.{NotOut, Preparing, Prepared, someOut, outOf, dueOf, named, out, due, ending}
 use Rattle.table.proofs.Bounds.{bounded}
 use Rattle.table.proofs.Counting.{own-is}
 use Rattle.table.proofs.Forms.{used-in-range}
-use Rattle.table.proofs.Finding.{found-at, found-none}
-use Rattle.table.proofs.Orderless.{about-once, none-at}
+use Rattle.table.proofs.Finding.{by-found, found-here, found-none, set-each}
+use Rattle.table.proofs.Orderless.{about-once}
 use Rattle.table.proofs.Placing.{found-place}
 use Rattle.table.proofs.Rows.{row-step}
 use Rattle.table.proofs.Soundness.{sound, sound-step}
-use Rattle.table.proofs.Tally.{tally-at}
+use Rattle.table.proofs.Tally.{tally-at, none-at}
 use Rattle.table.proofs.Ticks.{dueTimes, tick-nine}
 use Rattle.table.proofs.Viewing.{named-at, named-none, own-sole}
 
@@ -48,7 +46,7 @@ prepared-means p n admitted r prepared =
     let both = both-true (eqb (r .state) 2) (eqb (r .neighbour) p) u in
     let same : Prepared (r .new .0) (r .admitted) ≡ Prepared n admitted = rw (t, u) at prepared in
     (eqb-true (r .state) 2 (both .0), both .1, (cc)))
-    (λ u. let never : NotOut ≡ Prepared n admitted = rw (t, u) at prepared in let bad : _≡_ {A = ℕ} 0 1 = cc in absurd (omega arith)))
+    (λ u. absurd (false≢true (ap someOut (rw (t, u) at prepared)))))
 
 -- the release with a neighbour and both IDs
 abbrev release : ℕ → ℕ → ℕ → Record
@@ -65,24 +63,19 @@ module _ (s : Station) (sound : Sound s) (p i n j : ℕ) (place : j < 64) (its :
 
   -- So it finds it.
   release-finds : find (about (release p i n)) s ≡ At j
-  release-finds = at (find (about (release p i n)) s) refl
-    where
-      at : (found : Found) → find (about (release p i n)) s ≡ found → found ≡ At j
-      at (At k) found =
-          let here = found-at (about (release p i n)) (s .entries) 0 k blank found in
-          let same : here .0 ≡ k = omega (arith, here .1) in
-          ap At (about-once (release p i n) (omega arith) (omega arith) s sound k j (found-place s sound (about (release p i n)) k found) place (rw same at (here .3)) mine)
-      at Nothing found =
-          absurd (true≢false (sym mine ∙ none-at (about (release p i n)) (s .entries) j (omega (arith, sound .places)) (found-none (about (release p i n)) (s .entries) 0 found)))
+  release-finds =
+      let its-own = about (release p i n) in
+      by-found (find its-own s)
+      (λ none. absurd (true≢false (sym mine ∙ none-at its-own (s .entries) j (omega (arith, sound .places)) (found-none its-own (s .entries) 0 none))))
+      (λ k found.
+      found ∙ ap At (about-once (release p i n) (omega arith) (omega arith) s sound k j (found-place s sound its-own k found) place (found-here its-own s k found .1) mine))
 
-  -- Where its place is free, no record has its own ID.
-  gone : Sound (put j blank s) → named i (put j blank s) ≡ blank
-  gone after =
-      named-none (put j blank s) after i
-      (λ k h. by-cases (eqb k j)
-      (λ t. rw (eqb-true k j t, getD-set-same (s .entries) j blank blank (omega (arith, sound .places))))
-      (λ t. rw (getD-set-other (s .entries) j k blank blank (eqb-false k j t))
-      (by-cases (ownIs i (getD (s .entries) k blank)) (λ u. absurd (eqb-false k j t (own-sole s sound i k j h place u its))) (λ u. u))))
+-- Where its place is free, no record has its own ID.
+gone : (s : Station) → Sound s → (i j : ℕ) → j < 64 → ownIs i (getD (s .entries) j blank) ≡ true → Sound (put j blank s) → named i (put j blank s) ≡ blank
+gone s sound i j place its after =
+    named-none (put j blank s) after i
+    (set-each (λ k x. k < 64 → ownIs i x ≡ false) (s .entries) j blank (omega (arith, sound .places)) (λ _. refl)
+    (λ k apart h. by-cases (ownIs i (getD (s .entries) k blank)) (λ u. absurd (apart (own-sole s sound i k j h place u its))) (λ u. u)))
 
 module _ {s : Station} (reached : Reached s) (bearers : List ℕ) (room : ℕ) where
   -- So the record is moved.
@@ -101,8 +94,8 @@ module _ {s : Station} (reached : Reached s) (bearers : List ℕ) (room : ℕ) w
       rw (used-in-range 31 p (omega (arith, small, eqb-true (x .neighbour) p (seen .1))), used-in-range 4095 i (omega (arith, mine, sound reached .fit j (there .1) .id)), used-in-range 4095 n (omega (arith, small, seen .2))) in
       let step = row-step s (release p i n) bearers room formed j 5 refl (release-finds s (sound reached) p i n j (there .1) (there .2) (seen .0) (seen .1) (seen .2)) (seen .0) in
       let after : Sound (put j blank s) = rw step at (sound-step (sound reached) (release p i n) bearers room) in
-      rw step (rw (gone s (sound reached) p i n j (there .1) (there .2) (seen .0) (seen .1) (seen .2) after), refl))
-      (λ free. let never : NotOut ≡ Prepared n admitted = rw (free .1) at prepared in let bad : _≡_ {A = ℕ} 0 1 = cc in absurd (omega arith))
+      rw step (rw (gone s (sound reached) i j (there .1) (there .2) after), refl))
+      (λ free. absurd (false≢true (ap someOut (rw (free .1) at prepared))))
       (named-at s (sound reached) i)
 
   pub takes-of : (e : Record) (p i n admitted : ℕ) → e ≡ message 5 p i n 0 0 0 → out s p i ≡ Prepared n admitted → (out (stepOf s e bearers room .station) p i ≡ NotOut) × (ending (stepOf s e bearers room) ≡ 3)
@@ -115,7 +108,7 @@ due-means : (p d : ℕ) (r : Entry) → dueOf p r ≡ some d → (leb 1 (r .stat
 due-means p d r timer =
     by-cases (leb 1 (r .state) && leb (r .state) 3 && eqb (r .neighbour) p)
     (λ t. let same : some (r .deadline) ≡ some d = rw t at timer in (both-true (leb 1 (r .state) && leb (r .state) 3) (eqb (r .neighbour) p) t .0, (cc)))
-    (λ t. let never : none ≡ some d = rw t at timer in let bad : _≡_ {A = ℕ} 0 1 = cc in absurd (omega arith))
+    (λ t. absurd (Option·none-ne-some d (rw t at timer)))
 
 -- A tick that finds a record with a deadline not due is before it.
 not-due : (e : Record) (r : Entry) → e .kind ≡ 15 → leb 1 (r .state) && leb (r .state) 3 ≡ true → dueTimes e r ≡ 0 → e .time < r .deadline
@@ -137,6 +130,6 @@ nine-of s sound e bearers room p i d fifteen nine timer =
     let one = tally-at (dueTimes e) (s .entries) (there .0) blank (omega (arith, there .1, sound .places)) in
     let before = not-due e x fifteen (seen .0) (omega (arith, one, tick-nine e fifteen formed s bearers room nine)) in
     omega (arith, before, seen .1))
-    (λ free. let never : none ≡ some d = rw (free .1) at timer in let bad : _≡_ {A = ℕ} 0 1 = cc in absurd (omega arith))
+    (λ free. absurd (Option·none-ne-some d (rw (free .1) at timer)))
     (named-at s sound i))
     (λ malformed. let one : _≡_ {A = ℕ} 1 9 = rw malformed at nine in absurd (omega arith))

@@ -1,26 +1,24 @@
 -- In every station that a fresh one reached, the records have neighbours below 32 and New IDs below 4,096.
 use Prim.Native.Nat.{ℕ, _≤_, _<_}
-use borrow.Author.Tests.{eqb-true, eqb-false, ne-eqb}
+use borrow.Author.Tests.{ne-eqb}
 use native.Mathlib.Omega.{arith}
-use lib.Dec.{eqb}
-use lib.ListN.{getD, getD-replicate}
-use lib.Seq.{getD-set-same, getD-set-other}
-use Rattle.laws.proofs.Tests.{by-cases}
+use lib.ListN.{length, getD, getD-replicate}
 use Rattle.records.specs.declared.Record.{Record}
 use Rattle.table.specs.declared.Answer.{Answer}
 use Rattle.table.specs.declared.Entry.{Entry}
 use Rattle.table.specs.declared.Station.{Station}
-use Rattle.table.specs.Numbers.{blank}
+use Rattle.table.specs.Numbers.{isFree, blank}
 use Rattle.table.specs.Reached.{Reached, born, stepped}
 use Rattle.table.specs.Sound.{Sound}
-use Rattle.table.specs.Step.{settled, issue, started, heldFor}
+use Rattle.table.specs.Step.{issue, started, heldFor}
 use Rattle.table.specs.Table.{add}
 use Rattle.table.proofs.Counting.{issue-small}
+use Rattle.table.proofs.Finding.{found-here, set-each}
 use Rattle.table.proofs.Forms.{neighbour-within, new-within}
-use Rattle.table.proofs.Soundness.{sound}
+use Rattle.table.proofs.Soundness.{born-as, sound}
 use Rattle.table.proofs.Turns.{Turn, starts, admits, turns, Change, stays, stores, prepares, serves, ends, turn}
 
-abbrev Bounded : Entry → Type 0
+abbrev pub Bounded : Entry → Type 0
 Bounded r = (r .neighbour ≤ 31) × (r .new .0 ≤ 4095)
 
 -- A record that changes keeps its bounds: an acknowledge has a New ID below 4,096.
@@ -33,21 +31,17 @@ change-bounded (ends _ _) b = (omega arith, omega arith)
 
 module _ (s : Station) (sound : Sound s) (all : (j : ℕ) → j < 64 → Bounded (getD (s .entries) j blank)) where
   -- So does a table in which one is made that has them.
-  made-bounded : (k : ℕ) (r : Entry) → Bounded r → (j : ℕ) → j < 64 → Bounded (getD (add k (issue s) r s .entries) j blank)
-  made-bounded k r b j h =
-      by-cases (eqb j k)
-      (λ t. rw (eqb-true j k t, getD-set-same (s .entries) k r blank (omega (arith, eqb-true j k t, sound .places))) b)
-      (λ t. rw (getD-set-other (s .entries) k j r blank (eqb-false j k t)) (all j h))
+  made-bounded : (k : ℕ) (r : Entry) → k < length (s .entries) → Bounded r → (j : ℕ) → j < 64 → Bounded (getD (add k (issue s) r s .entries) j blank)
+  made-bounded k r place b = set-each (λ j x. j < 64 → Bounded x) (s .entries) k r place (λ _. b) (λ j _. all j)
 
   turn-bounded : {e : Record} {a : Answer} → Turn s e a → (j : ℕ) → j < 64 → Bounded (getD (a .station .entries) j blank)
-  turn-bounded {e} (starts k found formed nine) = made-bounded k (started e s) (neighbour-within e formed, omega arith)
-  turn-bounded {e} (admits k found formed one a) = made-bounded k (heldFor e a s) (neighbour-within e formed, omega (arith, issue-small s sound))
+  turn-bounded {e} (starts k found formed nine) = made-bounded k (started e s) (found-here isFree s k found .0) (neighbour-within e formed, omega arith)
+  turn-bounded {e} (admits k found formed one a) = made-bounded k (heldFor e a s) (found-here isFree s k found .0) (neighbour-within e formed, omega (arith, issue-small s sound))
   turn-bounded (turns t) = λ j h. change-bounded (t .change j h) (all j h)
 
-pub bounded : {s : Station} → Reached s → (j : ℕ) → j < 64 → (getD (s .entries) j blank .neighbour ≤ 31) × (getD (s .entries) j blank .new .0 ≤ 4095)
-bounded (born capacity prep overall guard) j h =
-    by-cases (settled capacity prep overall guard)
-    (λ t. rw (t, getD-replicate 64 j blank blank h) (omega arith, omega arith))
-    (λ t. rw (t, getD-replicate 64 j blank blank h) (omega arith, omega arith))
-bounded (stepped {s} before e _ bearers room) j h =
-    turn-bounded s (sound before) (λ k g. bounded before k g) (turn s (sound before) e bearers room) j h
+pub bounded : {s : Station} → Reached s → (j : ℕ) → j < 64 → Bounded (getD (s .entries) j blank)
+bounded (born capacity prep overall guard) =
+    born-as (λ s. (j : ℕ) → j < 64 → Bounded (getD (s .entries) j blank))
+    (λ _ _ _ _ j h. rw (getD-replicate 64 j blank blank h) (omega arith, omega arith)) capacity prep overall guard
+bounded (stepped {s} before e _ bearers room) =
+    turn-bounded s (sound before) (bounded before) (turn s (sound before) e bearers room)

@@ -6,7 +6,7 @@ use mathlib.Core.List.{List, [], _∷_, map}
 use borrow.Author.Tests.{eq-eqb, ne-eqb}
 use native.Mathlib.Omega.{arith}
 use lib.Dec.{eqb}
-use lib.ListN.{getD, replicate}
+use lib.ListN.{length, getD, replicate}
 use Rattle.records.specs.declared.Record.{Record}
 use Rattle.records.specs.Record.{little, recordOf, InRange}
 use Rattle.bearers.specs.Bearer.{recordsIn, allBearers}
@@ -23,8 +23,9 @@ use Rattle.table.specs.Step.{stepOf, issue, birthOf}
 use Rattle.table.specs.Table.{find, findFrom, dueFrom}
 use Rattle.table.proofs.Forms.{used-in-range}
 use Rattle.table.proofs.Issuing.{issue-free, issue-used}
-use Rattle.table.proofs.Rows.{same-at, row-step, start-step}
-use Rattle.table.specs.Cases.{Seen, Case, freshly, preparing, stationWith, issuedLast, startOf, bytesIn, runs, Holds, start, cancel, cases, noCase}
+use Rattle.table.proofs.Rows.{row-step, start-step}
+use Rattle.table.proofs.Tests.{same-at}
+use Rattle.table.specs.Cases.{Seen, Case, freshly, preparing, stationWith, issuedLast, startOf, bytesIn, runs, Holds, numbered, request, start, cancel, cases, noCase}
 
 -- ---- a station that issued 4,095 last
 
@@ -41,15 +42,23 @@ pub start-wraps : (s : Station) (e : Record) (bearers : List ℕ) (room i : ℕ)
 start-wraps s e bearers room i formed kind found last used unused =
     rw (start-step s e bearers room formed i kind found, issue-wraps s last used unused)
 
--- A fresh station comes to one: a start leaves own 0 preparing; and each start and its cancel after it issue one number more.
-pub in-bytes : (kind neighbour old first : ℕ) → kind ≤ 255 → neighbour ≤ 255 → old ≤ 4095 → first ≤ 255 → InRange (message kind neighbour old 0 first 0 0)
-in-bytes kind neighbour old first k n o f = record { kind = omega arith; neighbour = omega arith; old = omega arith; new = omega arith; first = omega arith; second = omega arith; reason = omega arith; byte11 = omega arith; number = omega arith; time = omega arith; erab = omega arith; qci = omega arith; priority = omega arith; flags = omega arith; bytes28 = omega arith }
+-- What is handed in is in range.
+in-bytes : (kind neighbour old first number : ℕ) → kind ≤ 255 → neighbour ≤ 255 → old ≤ 4095 → first ≤ 255 → number ≤ 255 → InRange (numbered number 0 (message kind neighbour old 0 first 0 0))
+in-bytes kind neighbour old first number k n o f u = record { kind = omega arith; neighbour = omega arith; old = omega arith; new = omega arith; first = omega arith; second = omega arith; reason = omega arith; byte11 = omega arith; number = omega arith; time = omega arith; erab = omega arith; qci = omega arith; priority = omega arith; flags = omega arith; bytes28 = omega arith }
 
 pub start-small : InRange (start .event)
-start-small = in-bytes 9 3 0 32 (omega arith) (omega arith) (omega arith) (omega arith)
+start-small = in-bytes 9 3 0 32 0 (omega arith) (omega arith) (omega arith) (omega arith) (omega arith)
 
 cancel-small : (n : ℕ) → n ≤ 4095 → InRange (cancel n .event)
-cancel-small n h = in-bytes 10 0 n 0 (omega arith) (omega arith) h (omega arith)
+cancel-small n h = in-bytes 10 0 n 0 0 (omega arith) (omega arith) h (omega arith) (omega arith)
+
+pub request-small : (bearers : List Record) → length bearers ≤ 255 → InRange (request bearers .event)
+request-small bearers h = in-bytes 1 3 7 0 (length bearers) (omega arith) (omega arith) (omega arith) (omega arith) h
+
+pub fresh-reached : Reached freshly
+fresh-reached = born 100 50 2000 3000
+
+-- A fresh station comes to one: a start leaves own 0 preparing; and each start and its cancel after it issue one number more.
 
 -- with a second record, that issued the number last
 abbrev twoFrom : ℕ → Station
@@ -76,7 +85,7 @@ cancelled-second n h =
 
 pub issued : (n : ℕ) → n ≤ 4095 → Reached (issuedLast n)
 unfolding findFrom anyOf issueFrom
-issued zero h = stepped (born 100 50 2000 3000) (start .event) start-small [] 0
+issued zero h = stepped fresh-reached (start .event) start-small [] 0
 issued (suc n) h =
     subst Reached (cancelled-second n h)
     (stepped (subst Reached (started-second n h) (stepped (issued n (omega arith)) (start .event) start-small [] 0)) (cancel (suc n) .event) (cancel-small (suc n) h) [] 0)
@@ -101,7 +110,7 @@ none-shown = refl
 
 start-reached : (wrapped : Bool) → Reached (cond wrapped (issuedLast 4095) freshly)
 start-reached true = issued 4095 (omega arith)
-start-reached false = born 100 50 2000 3000
+start-reached false = fresh-reached
 
 -- Each case of the table holds.
 pub all-cases : (n : ℕ) → Holds (getD cases n noCase)

@@ -1,13 +1,10 @@
 -- The four ways in which a station changes leave it sound.
 use Prim.Native.Nat.{ℕ, _+_, _≤_, _<_}
 use mathlib.Core.Path.{_≡_, refl, _∙_}
-use mathlib.Core.Bool.{true, cond}
+use mathlib.Core.Bool.{true}
 use mathlib.Core.List.{map}
-use borrow.Author.Tests.{eqb-true, eqb-false}
 use native.Mathlib.Omega.{arith}
-use lib.Dec.{eqb}
 use lib.ListN.{length, getD, set, length-set, length-map}
-use lib.Seq.{getD-set-same, getD-set-other}
 use Rattle.laws.proofs.Tests.{by-cases}
 use Rattle.records.specs.declared.Record.{Record}
 use Rattle.table.specs.declared.Entry.{Entry}
@@ -15,9 +12,10 @@ use Rattle.table.specs.declared.Station.{Station}
 use Rattle.table.specs.Events.{about}
 use Rattle.table.specs.Numbers.{isFree, blank}
 use Rattle.table.specs.Sound.{Fit, Sound, ownTimes, heldTimes}
-use Rattle.table.specs.Table.{at, put, add, reset, tally}
+use Rattle.table.specs.Table.{at, put, add, tally, leftOf, backOf, reset}
+use Rattle.table.proofs.Finding.{set-each}
 use Rattle.table.proofs.Fits.{fit-blank}
-use Rattle.table.proofs.Resetting.{after, reset-at}
+use Rattle.table.proofs.Resetting.{reset-at}
 use Rattle.table.proofs.Tally.{tally-at, tally-set, tally-map, tally-equal, tally-le, tally-add}
 
 module _ (s : Station) (sound : Sound s) where
@@ -44,10 +42,7 @@ module _ (s : Station) (sound : Sound s) where
 
     -- Where one record is replaced by one that fits, every record does.
     fit-set : (j : ℕ) → j < 64 → Fit (getD (set (s .entries) i r) j blank)
-    fit-set j h =
-        by-cases (eqb j i)
-        (λ t. rw (eqb-true j i t, getD-set-same (s .entries) i r blank inside) fit)
-        (λ t. rw (getD-set-other (s .entries) i j r blank (eqb-false j i t)) (sound .fit j h))
+    fit-set = set-each (λ j x. j < 64 → Fit x) (s .entries) i r inside (λ _. fit) (λ j _. sound .fit j)
 
     -- A record may be replaced by one that has no other own ID, is not newly held and has no more units.
     pub sound-put :
@@ -100,8 +95,8 @@ module _ (s : Station) (sound : Sound s) where
   pub sound-reset : (e : Record) → Sound (reset e s)
   sound-reset e =
       record {
-        places = length-map (s .entries) (after e) ∙ sound .places;
-        fit = λ i h. rw (reset-at e s i) (after-fits (getD (s .entries) i blank) (sound .fit i h));
+        places = length-map (s .entries) (leftOf e) ∙ sound .places;
+        fit = λ i h. rw (reset-at e s i) (left-fits (getD (s .entries) i blank) (sound .fit i h));
         distinct = λ k. omega (arith, sound .distinct k, fewer (ownTimes k) refl);
         unique = λ n o. omega (arith, sound .unique n o, fewer (heldTimes n o) refl);
         sum = omega (arith, sound .sum, parts);
@@ -113,16 +108,16 @@ module _ (s : Station) (sound : Sound s) where
         guard = sound .guard;
       }
     where
-      after-fits : (r : Entry) → Fit r → Fit (after e r)
-      after-fits r fit = by-cases (about e r) (λ t. rw t fit-blank) (λ t. rw t fit)
+      left-fits : (r : Entry) → Fit r → Fit (leftOf e r)
+      left-fits r fit = by-cases (about e r) (λ t. rw t fit-blank) (λ t. rw t fit)
 
-      fewer : (f : Entry → ℕ) → f blank ≡ 0 → tally f (map (after e) (s .entries)) ≤ tally f (s .entries)
+      fewer : (f : Entry → ℕ) → f blank ≡ 0 → tally f (map (leftOf e) (s .entries)) ≤ tally f (s .entries)
       fewer f none =
-          rw (tally-map f (after e) (s .entries))
-          (tally-le (λ r. f (after e r)) f (s .entries) (λ r. by-cases (about e r) (λ t. rw t (omega arith)) (λ t. rw t (omega arith))))
+          rw (tally-map f (leftOf e) (s .entries))
+          (tally-le (λ r. f (leftOf e r)) f (s .entries) (s .entries) refl
+          (λ i _. by-cases (about e (getD (s .entries) i blank)) (λ t. rw t (omega arith)) (λ t. rw t (omega arith))))
 
-      parts : tally (λ r. r .units) (s .entries) ≡ tally (λ r. cond (about e r) (r .units) 0) (s .entries) + tally (λ r. r .units) (map (after e) (s .entries))
+      parts : tally (λ r. r .units) (s .entries) ≡ tally (backOf e) (s .entries) + tally (λ r. r .units) (map (leftOf e) (s .entries))
       parts =
-          let ended : Entry → ℕ = λ r. cond (about e r) (r .units) 0 in
-          let each = tally-equal (λ r. r .units) (λ r. ended r + after e r .units) (s .entries) (λ r. by-cases (about e r) (λ t. rw t (omega arith)) (λ t. rw t (omega arith))) in
-          omega (arith, tally-add ended (λ r. after e r .units) (s .entries), tally-map (λ r. r .units) (after e) (s .entries))
+          let each = tally-equal (λ r. r .units) (λ r. backOf e r + leftOf e r .units) (s .entries) (λ i _. by-cases (about e (getD (s .entries) i blank)) (λ t. rw t (omega arith)) (λ t. rw t (omega arith))) in
+          omega (arith, tally-add (backOf e) (λ r. leftOf e r .units) (s .entries), tally-map (λ r. r .units) (leftOf e) (s .entries))

@@ -1,9 +1,9 @@
 -- An own ID that is issued is in use by no record.
 use Prim.Native.Nat.{ℕ, zero, suc, _+_, _≤_, _<_}
 use mathlib.Core.Path.{_≡_, refl, _∙_, sym}
-use mathlib.Core.Bool.{true, false, cond, true≢false, false≢true}
+use mathlib.Core.Bool.{true, false, cond, not, _&&_, or-false, true≢false}
 use mathlib.Core.List.{List}
-use borrow.Author.Tests.{eq-eqb, ne-eqb, eqb-true, eqb-false, leb-true, lt-leb}
+use borrow.Author.Tests.{eq-eqb, ne-eqb, eqb-true, eqb-false, leb-true, leb-false, le-leb, lt-leb}
 use native.Mathlib.Omega.{arith}
 use lib.Dec.{leb, eqb}
 use lib.ListN.{getD}
@@ -11,13 +11,13 @@ use Rattle.laws.proofs.Tests.{by-cases, both-true}
 use Rattle.table.specs.declared.Entry.{Entry}
 use Rattle.table.specs.declared.Found.the-variants.{At}
 use Rattle.table.specs.declared.Station.{Station}
-use Rattle.table.specs.Numbers.{isFree, isOutgoing, isIncoming, blank, own, ownIs, anyOf, nextAfter, issueFrom}
+use Rattle.table.specs.Numbers.{isFree, blank, own, ownIs, anyOf, nextAfter, issueFrom}
 use Rattle.table.specs.Sound.{Fit, Sound, ownTimes}
 use Rattle.table.specs.Step.{issue}
 use Rattle.table.specs.Table.{find, tally}
-use Rattle.table.proofs.Finding.{found-at}
 use Rattle.table.proofs.Issuing.{next-small}
-use Rattle.table.proofs.Tally.{tally-at, tally-le-at, tally-add, tally-each, tally-any, tally-none, once-le}
+use Rattle.table.proofs.Tally.{tally-le, tally-add, tally-each, tally-any, tally-found, tally-none, once-le}
+use Rattle.table.proofs.Tests.{eqb-sym}
 
 -- ---- numbers one after the other
 
@@ -100,29 +100,29 @@ all-used (suc n) c rs used =
     (λ t. absurd (true≢false (sym (rw t at used) ∙ t)))
 
 -- A record has one own ID, and a free place none.
+pub own-equal : (k : ℕ) (r : Entry) → ownIs k r ≡ (not (isFree r) && eqb k (own r))
+own-equal k r =
+    by-cases (isFree r) (λ t. rw (eqb-true (r .state) 0 t))
+    (λ t.
+    let some = le-leb 1 (r .state) (omega (arith, eqb-false (r .state) 0 t)) in
+    by-cases (leb (r .state) 2)
+    (λ u. rw (t, some, u, lt-leb 3 (r .state) (omega (arith, leb-true (r .state) 2 u))) (or-false (eqb (r .old .0) k) ∙ eqb-sym (r .old .0) k))
+    (λ u. rw (t, some, u, le-leb 3 (r .state) (omega (arith, leb-false (r .state) 2 u))) (eqb-sym (r .new .0) k)))
+
 pub own-is : (k : ℕ) (r : Entry) → ownIs k r ≡ true → eqb k (own r) ≡ true
-own-is k r used =
-    by-cases (isOutgoing r)
-    (λ t.
-    let early : r .state ≤ 2 = leb-true (r .state) 2 (both-true (leb 1 (r .state)) (leb (r .state) 2) t .1) in
-    by-cases (eqb (r .old .0) k)
-    (λ u. rw t (eq-eqb k (r .old .0) (sym (eqb-true (r .old .0) k u))))
-    (λ u. absurd (false≢true (rw (t, u, lt-leb 3 (r .state) (omega arith)) at used))))
-    (λ t.
-    let both : (isIncoming r ≡ true) × (eqb (r .new .0) k ≡ true) = both-true (isIncoming r) (eqb (r .new .0) k) (rw t at used) in
-    rw t (eq-eqb k (r .new .0) (sym (eqb-true (r .new .0) k (both .1)))))
+own-is k r used = both-true (not (isFree r)) (eqb k (own r)) (rw (own-equal k r) at used) .1
+
+pub own-itself : (r : Entry) → isFree r ≡ false → ownTimes (own r) r ≡ 1
+own-itself r used = rw (own-equal (own r) r, used, eq-eqb (own r) (own r) refl)
 
 own-times : (k : ℕ) (r : Entry) → ownTimes k r ≤ is (own r) k
 own-times k r = once-le (ownIs k r) (eqb k (own r)) (own-is k r)
 
-pub own-free : (k : ℕ) (r : Entry) → isFree r ≡ true → ownTimes k r ≡ 0
-own-free k r free = rw (eqb-true (r .state) 0 free)
-
--- Of 64 numbers a record has at most one for its own.
+-- Of the numbers passed a record has at most one for its own, and a free place none.
 few-own : (n c : ℕ) (r : Entry) → Fit r → c < 4096 → n ≤ 4096 → along (λ k. ownTimes k r) n c + cond (isFree r) 1 0 ≤ 1
 few-own n c r fit small few =
     by-cases (isFree r)
-    (λ t. rw t (omega (arith, along-none (λ k. ownTimes k r) n c (λ k. own-free k r t))))
+    (λ t. rw t (omega (arith, along-none (λ k. ownTimes k r) n c (λ k. rw (own-equal k r, t)))))
     (λ t.
     let one = along-le (λ k. ownTimes k r) (is (own r)) n c (λ k. own-times k r) in
     rw t (omega (arith, one, passed-once (own r) n c (fit .id) small few)))
@@ -148,10 +148,8 @@ module _ (s : Station) (sound : Sound s) where
       by-cases (anyOf (ownIs (issue s)) (s .entries))
       (λ t.
       let c = nextAfter (s .last) in
-      let place = found-at isFree (s .entries) 0 i blank found in
       let times : Entry → ℕ = λ r. along (λ k. ownTimes k r) 64 c in
       let free : Entry → ℕ = λ r. cond (isFree r) 1 0 in
-      let vacant : 1 ≤ tally free (s .entries) = rw (place .3) at (tally-at free (s .entries) (place .0) blank (place .2)) in
-      let few = tally-le-at (λ r. times r + free r) (λ r. 1) (s .entries) blank (λ j h. few-own 64 c (getD (s .entries) j blank) (sound .fit j (omega (arith, sound .places))) (next-small (s .last) (sound .last)) (omega arith)) in
-      absurd (omega (arith, tally-each 1 (s .entries), sound .places, tally-add times free (s .entries), all-used 64 c (s .entries) t, along-tally ownTimes (s .entries) 64 c)))
+      let few = tally-le (λ r. times r + free r) (λ r. 1) (s .entries) (s .entries) refl (λ j h. few-own 64 c (getD (s .entries) j blank) (sound .fit j (omega (arith, sound .places))) (next-small (s .last) (sound .last)) (omega arith)) in
+      absurd (omega (arith, tally-found isFree s i found, tally-each 1 (s .entries), sound .places, tally-add times free (s .entries), all-used 64 c (s .entries) t, along-tally ownTimes (s .entries) 64 c)))
       (λ t. t)

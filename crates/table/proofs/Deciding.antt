@@ -1,8 +1,8 @@
 -- What is decided of a record.
-use Prim.Native.Nat.{ℕ, zero, suc, _≤_}
+use Prim.Native.Nat.{ℕ, _≤_}
 use mathlib.Core.Path.{_≡_, refl}
 use mathlib.Core.Bool.{Bool, true, false, not, _&&_, _||_}
-use mathlib.Core.List.{List, [], _∷_}
+use mathlib.Core.List.{[]}
 use borrow.Author.Tests.{eqb-true}
 use native.Mathlib.Omega.{arith}
 use lib.Dec.{eqb}
@@ -13,20 +13,14 @@ use Rattle.table.specs.declared.Decision.{Decision}
 use Rattle.table.specs.declared.Entry.{Entry}
 use Rattle.table.specs.Events.{actions, actionOf, message, silence, decision, refusal, decide, lastWord, listsFit, setFits, prepared, stored, serving}
 use Rattle.table.specs.Numbers.{blank}
+use Rattle.table.proofs.Tests.{every, every-at}
 
 -- ---- where an action stands
 
--- whether a test holds of each element of a list and its place
-abbrev pub every : {A : Type 0} → (ℕ → A → Bool) → List A → Bool
-every test [] = true
-every test (x ∷ xs) = test 0 x && every (λ i. test (suc i)) xs
-
--- Then it holds of what is read at any place, if it holds of what is read beyond the end.
-pub every-at : {A : Type 0} (test : ℕ → A → Bool) (xs : List A) (d : A) (i : ℕ) → every test xs ≡ true → ((j : ℕ) → test j d ≡ true) → test i (getD xs i d) ≡ true
-every-at test [] d i t beyond = beyond i
-every-at test (x ∷ xs) d zero t beyond = both-true (test 0 x) (every (λ i. test (suc i)) xs) t .0
-every-at test (x ∷ xs) d (suc i) t beyond =
-    every-at (λ j. test (suc j)) xs d i (both-true (test 0 x) (every (λ j. test (suc j)) xs) t .1) (λ j. beyond (suc j))
+-- A test that holds at every kind and state of the table, and of no action, holds of the action of any kind and state.
+pub every-action : (test : ℕ → ℕ → ℕ → Bool) → every (λ k row. every (test k) row) actions ≡ true → (k st : ℕ) → ((j : ℕ) → test k j 0 ≡ true) → test k st (actionOf k st) ≡ true
+every-action test all k st none =
+    every-at (test k) (getD actions k []) 0 st (every-at (λ i row. every (test i) row) actions [] k all (λ j. refl)) none
 
 -- whether an action stands at one kind and one state only
 abbrev sole : ℕ → ℕ → ℕ → ℕ → ℕ → ℕ → Bool
@@ -35,8 +29,7 @@ sole action k s kind state x = not (eqb x action) || eqb kind k && eqb state s
 -- By that test of the whole table, an action is found at its kind and state only.
 pub stands : (action k s kind state : ℕ) → eqb 0 action ≡ false → every (λ i row. every (sole action k s i) row) actions ≡ true → eqb (actionOf kind state) action ≡ true → (kind ≡ k) × (state ≡ s)
 stands action k s kind state some test t =
-    let row = every-at (λ i row. every (sole action k s i) row) actions [] kind test (λ j. refl) in
-    let here = every-at (sole action k s kind) (getD actions kind []) 0 state row (λ j. rw some) in
+    let here = every-action (sole action k s) test kind state (λ j. rw some) in
     let both : (eqb kind k ≡ true) × (eqb state s ≡ true) = both-true (eqb kind k) (eqb state s) (rw t at here) in
     (eqb-true kind k (both .0), eqb-true state s (both .1))
 

@@ -1,70 +1,98 @@
--- How a walk over the table goes on from a place.
+-- How a walk over the table goes on from a place, what it finds, and what stands at each place once one record is replaced.
 use Prim.Native.Nat.{ℕ, suc, _+_, _≤_, _<_}
-use mathlib.Core.Path.{_≡_, refl}
+use mathlib.Core.Path.{_≡_, refl, sym, _∙_}
 use mathlib.Core.Bool.{Bool, true, false, _&&_, _||_}
 use mathlib.Core.List.{List, [], _∷_}
+use borrow.Author.Tests.{eqb-true, eqb-false}
 use native.Mathlib.Numerals.{add-one}
 use native.Mathlib.Omega.{arith}
-use lib.ListN.{length, getD, drop, drop-of-length-le}
-use lib.Seq.{drop-cons}
+use lib.Dec.{eqb}
+use lib.ListN.{length, getD, set, drop, drop-of-length-le}
+use lib.Seq.{drop-cons, getD-set-same, getD-set-other}
 use Rattle.laws.proofs.Tests.{by-cases}
 use Rattle.records.specs.declared.Record.{Record}
 use Rattle.table.specs.declared.Best.{Best}
 use Rattle.table.specs.declared.Entry.{Entry}
+use Rattle.table.specs.declared.Found.{Found}
 use Rattle.table.specs.declared.Found.the-variants.{At, Nothing}
+use Rattle.table.specs.declared.Station.{Station}
 use Rattle.table.specs.Events.{key}
-use Rattle.table.specs.Numbers.{isFree, anyOf}
-use Rattle.table.specs.Table.{findFrom, dueBy, sooner, betterBy, placeOf, dueFrom}
+use Rattle.table.specs.Numbers.{isFree, blank, anyOf}
+use Rattle.table.specs.Table.{find, findFrom, dueBy, sooner, betterBy, placeOf, dueFrom, soonest}
 
-module _ (rs : List Entry) (i : ℕ) (d : Entry) where
+-- ---- a walk whose outcome from a place on is its outcome in all
+
+module _ (s : Station) (places : length (s .entries) ≡ 64) (i : ℕ) where
   -- The first place at which a test holds is here, or further on, or nowhere.
-  pub find-here : (test : Entry → Bool) → i < length rs → test (getD rs i d) ≡ true → findFrom test i (drop i rs) ≡ At i
-  unfolding findFrom
-  find-here test h t = rw (drop-cons rs i d h, t)
+  module _ (test : Entry → Bool) (left : findFrom test i (drop i (s .entries)) ≡ find test s) where
+    pub find-here : i < 64 → test (getD (s .entries) i blank) ≡ true → find test s ≡ At i
+    unfolding findFrom
+    find-here h t = sym left ∙ rw (drop-cons (s .entries) i blank (omega (arith, places)), t)
 
-  pub find-past : (test : Entry → Bool) → i < length rs → test (getD rs i d) ≡ false → findFrom test i (drop i rs) ≡ findFrom test (i + 1) (drop (i + 1) rs)
-  unfolding findFrom
-  find-past test h t = rw (drop-cons rs i d h, t, add-one)
+    pub find-past : i < 64 → test (getD (s .entries) i blank) ≡ false → findFrom test (i + 1) (drop (i + 1) (s .entries)) ≡ find test s
+    unfolding findFrom
+    find-past h t = rw (add-one i) (rw (drop-cons (s .entries) i blank (omega (arith, places)), t, add-one i) at left)
 
-  pub find-end : (test : Entry → Bool) → length rs ≤ i → findFrom test i (drop i rs) ≡ Nothing
-  unfolding findFrom
-  find-end test h = rw (drop-of-length-le rs h)
+    pub find-end : 64 ≤ i → find test s ≡ Nothing
+    unfolding findFrom
+    find-end h = sym left ∙ rw (drop-of-length-le (s .entries) {i = i} (omega (arith, places)))
 
-  -- A test holds of some record from here on if it holds here or further on.
-  pub any-here : (test : Entry → Bool) → i < length rs → test (getD rs i d) ≡ true → anyOf test (drop i rs) ≡ true
-  unfolding anyOf
-  any-here test h t = rw (drop-cons rs i d h, t)
+  -- A test holds of some record if it holds here or further on.
+  module _ (test : Entry → Bool) (left : anyOf test (drop i (s .entries)) ≡ anyOf test (s .entries)) where
+    pub any-here : i < 64 → test (getD (s .entries) i blank) ≡ true → anyOf test (s .entries) ≡ true
+    unfolding anyOf
+    any-here h t = sym left ∙ rw (drop-cons (s .entries) i blank (omega (arith, places)), t)
 
-  pub any-past : (test : Entry → Bool) → i < length rs → test (getD rs i d) ≡ false → anyOf test (drop i rs) ≡ anyOf test (drop (i + 1) rs)
-  unfolding anyOf
-  any-past test h t = rw (drop-cons rs i d h, t, add-one)
+    pub any-past : i < 64 → test (getD (s .entries) i blank) ≡ false → anyOf test (drop (i + 1) (s .entries)) ≡ anyOf test (s .entries)
+    unfolding anyOf
+    any-past h t = rw (add-one i) (rw (drop-cons (s .entries) i blank (omega (arith, places)), t) at left)
 
-  pub any-end : (test : Entry → Bool) → length rs ≤ i → anyOf test (drop i rs) ≡ false
-  unfolding anyOf
-  any-end test h = rw (drop-of-length-le rs h)
+    pub any-end : 64 ≤ i → anyOf test (s .entries) ≡ false
+    unfolding anyOf
+    any-end h = sym left ∙ rw (drop-of-length-le (s .entries) {i = i} (omega (arith, places)))
 
   -- The soonest so far, with the record here looked at.
-  pub due-past : (e : Record) (best : Best) → i < length rs → dueFrom e best i (drop i rs) ≡ dueFrom e (betterBy (key (e .kind)) e i (getD rs i d) best) (i + 1) (drop (i + 1) rs)
-  unfolding dueFrom
-  due-past e best h = rw (drop-cons rs i d h, ← add-one i)
+  module _ (e : Record) (best : Best) (left : dueFrom e best i (drop i (s .entries)) ≡ soonest e s) where
+    pub due-past : i < 64 → dueFrom e (betterBy (key (e .kind)) e i (getD (s .entries) i blank) best) (i + 1) (drop (i + 1) (s .entries)) ≡ soonest e s
+    unfolding dueFrom
+    due-past h =
+        let on : dueFrom e best i (drop i (s .entries)) ≡ dueFrom e (betterBy (key (e .kind)) e i (getD (s .entries) i blank) best) (i + 1) (drop (i + 1) (s .entries)) = rw (drop-cons (s .entries) i blank (omega (arith, places)), ← add-one i) in
+        sym on ∙ left
 
-  pub due-end : (e : Record) (best : Best) → length rs ≤ i → dueFrom e best i (drop i rs) ≡ placeOf best
-  unfolding dueFrom
-  due-end e best h = rw (drop-of-length-le rs h)
+    pub due-end : 64 ≤ i → soonest e s ≡ placeOf best
+    unfolding dueFrom
+    due-end h = sym left ∙ rw (drop-of-length-le (s .entries) {i = i} (omega (arith, places)))
 
--- A place that is found is one of the table's, and the test holds there.
-pub found-at : (test : Entry → Bool) (rs : List Entry) (i k : ℕ) (d : Entry) → findFrom test i rs ≡ At k → (j : ℕ) × (k ≡ i + j) × (j < length rs) × (test (getD rs j d) ≡ true)
+-- ---- what is found
+
+-- A place that is found is not none.
+pub at-nothing : (i : ℕ) → At i ≡ Nothing → ⊥
+at-nothing i e = let bad : _≡_ {A = ℕ} 0 1 = cc in omega arith
+
+-- A fact by what is found.
+pub by-found : {G : Type 0} (found : Found) → (found ≡ Nothing → G) → ((k : ℕ) → found ≡ At k → G) → G
+by-found Nothing none at = none refl
+by-found (At k) none at = at k refl
+
+found-at : (test : Entry → Bool) (rs : List Entry) (i k : ℕ) → findFrom test i rs ≡ At k → (j : ℕ) × (k ≡ i + j) × (j < length rs) × (test (getD rs j blank) ≡ true)
 unfolding findFrom
-found-at test [] i k d e = let z : _≡_ {A = ℕ} 0 1 = cc in absurd (omega arith)
-found-at test (r ∷ rs) i k d e =
+found-at test [] i k e = absurd (at-nothing k (sym e))
+found-at test (r ∷ rs) i k e =
     by-cases (test r)
     (λ t.
     let here : At i ≡ At k = rw t at e in
     let same : i ≡ k = cc in
     (0, omega arith, omega arith, t))
     (λ t.
-    let later = found-at test rs (i + 1) k d (rw t at e) in
+    let later = found-at test rs (i + 1) k (rw t at e) in
     (suc (later .0), omega (arith, later .1), omega (arith, later .2), later .3))
+
+-- A place that is found is one of the table's, and the test holds there.
+pub found-here : (test : Entry → Bool) (s : Station) (k : ℕ) → find test s ≡ At k → (k < length (s .entries)) × (test (getD (s .entries) k blank) ≡ true)
+found-here test s k found =
+    let there = found-at test (s .entries) 0 k found in
+    let same : there .0 ≡ k = omega (arith, there .1) in
+    (omega (arith, there .1, there .2), rw same at (there .3))
 
 -- Where no place is found, the test holds of no record.
 pub found-none : (test : Entry → Bool) (rs : List Entry) (i : ℕ) → findFrom test i rs ≡ Nothing → anyOf test rs ≡ false
@@ -72,7 +100,7 @@ unfolding findFrom anyOf
 found-none test [] i e = refl
 found-none test (r ∷ rs) i e =
     by-cases (test r)
-    (λ t. let here : At i ≡ Nothing = rw t at e in let z : _≡_ {A = ℕ} 0 1 = cc in absurd (omega arith))
+    (λ t. absurd (at-nothing i (rw t at e)))
     (λ t. rw t (found-none test rs (i + 1) (rw t at e)))
 
 -- The soonest record that is due stands in the table.
@@ -80,7 +108,7 @@ pub due-at : (e : Record) (rs : List Entry) (best : Best) (i k : ℕ) → (isFre
 unfolding dueFrom
 due-at e [] best i k placed found =
     by-cases (isFree (best .entry))
-    (λ t. let none : Nothing ≡ At k = rw t at found in let z : _≡_ {A = ℕ} 0 1 = cc in absurd (omega arith))
+    (λ t. absurd (at-nothing k (sym (rw t at found))))
     (λ t.
     let here : At (best .place) ≡ At k = rw t at found in
     let same : best .place ≡ k = cc in
@@ -93,3 +121,12 @@ due-at e (r ∷ rs) best i k placed found =
         by-cases (dueBy (key (e .kind)) e r && (isFree (best .entry) || sooner r (best .entry)))
         (λ t. rw t (λ _. omega arith))
         (λ t. rw t (λ f. omega (arith, placed f)))
+
+-- ---- one record is replaced
+
+-- What holds of the new record at its place, and of every other where it stands, holds at each place.
+pub set-each : (P : ℕ → Entry → Type 0) (rs : List Entry) (i : ℕ) (r : Entry) → i < length rs → P i r → ((j : ℕ) → (j ≡ i → ⊥) → P j (getD rs j blank)) → (j : ℕ) → P j (getD (set rs i r) j blank)
+set-each P rs i r h new others j =
+    by-cases (eqb j i)
+    (λ t. rw (eqb-true j i t, getD-set-same rs i r blank h) new)
+    (λ t. rw (getD-set-other rs i j r blank (eqb-false j i t)) (others j (eqb-false j i t)))

@@ -34,43 +34,37 @@ setsInRange e =
     && inRange (usedBy (e .kind) 5) 255 (e .reason)
 
 module _ (e : Record) (t : wellFormed e ≡ true) where
-  formed : (isKind (e .kind) && idsInRange (usedBy (e .kind)) e && valuesInRange (usedBy (e .kind)) e ≡ true)
-  formed =
-      both-true (isKind (e .kind) && idsInRange (usedBy (e .kind)) e && valuesInRange (usedBy (e .kind)) e) (othersZero e)
-      (both-true (isKind (e .kind) && idsInRange (usedBy (e .kind)) e && valuesInRange (usedBy (e .kind)) e && othersZero e) (isFilled e) t .0) .0
+  -- Its kind is one, and its IDs and its values are in range.
+  parts : (isKind (e .kind) ≡ true) × (idsInRange (usedBy (e .kind)) e ≡ true) × (valuesInRange (usedBy (e .kind)) e ≡ true)
+  parts =
+      let kind = isKind (e .kind) in
+      let ids = idsInRange (usedBy (e .kind)) e in
+      let values = valuesInRange (usedBy (e .kind)) e in
+      let four = both-true (kind && ids && values && othersZero e) (isFilled e) t .0 in
+      let three = both-true (kind && ids) values (both-true (kind && ids && values) (othersZero e) four .0) in
+      let two = both-true kind ids (three .0) in
+      (two .0, two .1, three .1)
 
   pub kind-small : e .kind < 18
-  kind-small =
-      kind-below (e .kind)
-      (both-true (isKind (e .kind)) (idsInRange (usedBy (e .kind)) e)
-      (both-true (isKind (e .kind) && idsInRange (usedBy (e .kind)) e) (valuesInRange (usedBy (e .kind)) e) formed .0) .0)
+  kind-small = kind-below (e .kind) (parts .0)
 
-  -- Its number and its time are in range, whatever its kind is.
-  values : valuesInRange (usedBy (e .kind)) e ≡ true
-  values = both-true (isKind (e .kind) && idsInRange (usedBy (e .kind)) e) (valuesInRange (usedBy (e .kind)) e) formed .1
-
-  -- Its neighbour is in range, and so is its New ID, but where a cancel has none.
-  ids : idsInRange (usedBy (e .kind)) e ≡ true
-  ids =
-      both-true (isKind (e .kind)) (idsInRange (usedBy (e .kind)) e)
-      (both-true (isKind (e .kind) && idsInRange (usedBy (e .kind)) e) (valuesInRange (usedBy (e .kind)) e) formed .0) .1
-
+  -- So its neighbour is in range, and its New ID but where a cancel has none, its number and its time, whatever its kind is.
   pub neighbour-within : e .neighbour ≤ 31
   neighbour-within =
       let neighbour = inRange (usedBy (e .kind) 0) 31 (e .neighbour) in
       let old = inRange (usedBy (e .kind) 1) 4095 (e .old .0) in
       let new = inRange (usedBy (e .kind) 2) 4095 (e .new .0) || isAbsent e in
-      at-most (usedBy (e .kind) 0) 31 (e .neighbour) (both-true neighbour old (both-true (neighbour && old) new ids .0) .0)
+      at-most (usedBy (e .kind) 0) 31 (e .neighbour) (both-true neighbour old (both-true (neighbour && old) new (parts .1) .0) .0)
 
   pub new-within : eqb (e .kind) 6 ≡ false → e .new .0 ≤ 4095
   new-within six =
       let others = inRange (usedBy (e .kind) 0) 31 (e .neighbour) && inRange (usedBy (e .kind) 1) 4095 (e .old .0) in
       let new = inRange (usedBy (e .kind) 2) 4095 (e .new .0) in
-      let one = both-true others (new || isAbsent e) ids .1 in
+      let one = both-true others (new || isAbsent e) (parts .1) .1 in
       by-cases new (λ u. at-most (usedBy (e .kind) 2) 4095 (e .new .0) u) (λ u. absurd (false≢true (rw (u, six) at one)))
 
   count-and-time : (setsInRange e && inRange (usedBy (e .kind) 6) 256 (e .number) ≡ true) × (inRange (usedBy (e .kind) 7) 1000000000000 (e .time) ≡ true)
-  count-and-time = both-true (setsInRange e && inRange (usedBy (e .kind) 6) 256 (e .number)) (inRange (usedBy (e .kind) 7) 1000000000000 (e .time)) values
+  count-and-time = both-true (setsInRange e && inRange (usedBy (e .kind) 6) 256 (e .number)) (inRange (usedBy (e .kind) 7) 1000000000000 (e .time)) (parts .2)
 
   pub time-within : e .time ≤ 1000000000000
   time-within = at-most (usedBy (e .kind) 7) 1000000000000 (e .time) (count-and-time .1)

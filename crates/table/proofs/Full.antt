@@ -1,15 +1,15 @@
 -- "64 records in use, exactly then": when a start or a request gets reply 4; and kinds that are none.
-use Prim.Native.Nat.{ℕ, _+_, _≤_, _<_}
+use Prim.Native.Nat.{ℕ, _+_, _<_}
 use mathlib.Core.Path.{_≡_, refl}
 use mathlib.Core.Bool.{Bool, true, false, cond}
 use mathlib.Core.List.{List}
 use borrow.Author.Tests.{eqb-false}
 use native.Mathlib.Omega.{arith}
 use lib.Dec.{eqb}
+use lib.ListN.{getD}
 use Rattle.laws.proofs.Tests.{by-cases}
 use Rattle.records.specs.declared.Record.{Record}
 use Rattle.table.specs.declared.Entry.{Entry}
-use Rattle.table.specs.declared.Found.{Found}
 use Rattle.table.specs.declared.Found.the-variants.{At, Nothing}
 use Rattle.table.specs.declared.Station.{Station}
 use Rattle.table.specs.Events.{about}
@@ -18,9 +18,9 @@ use Rattle.table.specs.Numbers.{isFree, blank}
 use Rattle.table.specs.Sound.{Sound}
 use Rattle.table.specs.Step.{refused, failure, admission, taken, complete, stepOf}
 use Rattle.table.specs.Table.{find, tally}
-use Rattle.table.proofs.Finding.{found-at, found-none}
+use Rattle.table.proofs.Finding.{by-found, found-none}
 use Rattle.table.proofs.Rows.{start-step, full-step, crowded-step, empty-step, grant-step}
-use Rattle.table.proofs.Tally.{tally-at, tally-add, tally-each, tally-equal, tally-none}
+use Rattle.table.proofs.Tally.{tally-found, tally-add, tally-each, tally-equal, tally-none}
 
 -- how many records are in use
 abbrev free : Entry → ℕ
@@ -40,7 +40,7 @@ module _ (s : Station) (sound : Sound s) where
   -- Each of the 64 places is free or in use.
   all-places : inUse s + tally free (s .entries) ≡ 64
   all-places =
-      let both = tally-equal (λ r. used r + free r) (λ r. 1) (s .entries) (λ r. one-of-two (isFree r)) in
+      let both = tally-equal (λ r. used r + free r) (λ r. 1) (s .entries) (λ i _. one-of-two (isFree (getD (s .entries) i blank))) in
       omega (arith, tally-add used free (s .entries), both, tally-each 1 (s .entries), sound .places)
 
   -- No place is found free exactly where 64 records are in use.
@@ -49,27 +49,19 @@ module _ (s : Station) (sound : Sound s) where
       omega (arith, all-places, tally-none free isFree (s .entries) (λ r t. rw t) (found-none isFree (s .entries) 0 found))
 
   some-free : (i : ℕ) → find isFree s ≡ At i → inUse s < 64
-  some-free i found =
-      let place = found-at isFree (s .entries) 0 i blank found in
-      let one : 1 ≤ tally free (s .entries) = rw (place .3) at (tally-at free (s .entries) (place .0) blank (place .2)) in
-      omega (arith, all-places, one)
-
-  -- by what is found
-  by-place : {G : Type 0} (f : Found) → find isFree s ≡ f → (find isFree s ≡ Nothing → G) → ((i : ℕ) → find isFree s ≡ At i → G) → G
-  by-place Nothing found full room = full found
-  by-place (At i) found full room = room i found
+  some-free i found = omega (arith, all-places, tally-found isFree s i found)
 
   module _ (e : Record) (bearers : List ℕ) (room : ℕ) (formed : wellFormed e ≡ true) (kind : e .kind ≡ 9) where
     -- A start gets 4 where 64 records are in use, and else 0.
     pub full-exactly : inUse s ≡ 64 → stepOf s e bearers room ≡ refused 4 s
     full-exactly full =
-        by-place (find isFree s) refl
+        by-found (find isFree s)
         (λ found. full-step s e bearers room formed kind found)
         (λ i found. absurd (omega (arith, some-free i found)))
 
     pub room-exactly : inUse s < 64 → stepOf s e bearers room .outcome .reply ≡ 0
     room-exactly less =
-        by-place (find isFree s) refl
+        by-found (find isFree s)
         (λ found. absurd (omega (arith, none-free found)))
         (λ i found. rw (start-step s e bearers room formed i kind found))
 
@@ -78,13 +70,13 @@ module _ (s : Station) (sound : Sound s) where
     -- So does a request that is complete and repeats none: 4 and the failure where 64 are in use, and else another reply.
     pub crowded-exactly : inUse s ≡ 64 → stepOf s e bearers room ≡ failure 4 e s
     crowded-exactly full =
-        by-place (find isFree s) refl
+        by-found (find isFree s)
         (λ found. crowded-step s e bearers room formed kind whole new found)
         (λ i found. absurd (omega (arith, some-free i found)))
 
     pub admits-exactly : inUse s < 64 → stepOf s e bearers room .outcome .reply ≡ 4 → ⊥
     admits-exactly less =
-        by-place (find isFree s) refl
+        by-found (find isFree s)
         (λ found. absurd (omega (arith, none-free found)))
         (λ i found. by-cases (eqb (admission (taken e bearers) s .admitted) 0)
         (λ t. rw (empty-step s e bearers room formed kind whole i new found t) (eqb-false 5 4 refl))

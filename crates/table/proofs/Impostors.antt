@@ -1,33 +1,30 @@
 -- Who meets the contract of a step is the step, so no impostor meets it.
 use Prim.Native.Nat.{ℕ, zero, suc}
 use mathlib.Core.Path.{_≡_, refl, sym, ap, subst, _∙_}
-use mathlib.Core.Bool.{Bool, true, _&&_}
+use mathlib.Core.Bool.{Bool, true, _&&_, true≢false}
 use mathlib.Core.List.{List, [], _∷_}
 use borrow.Author.Tests.{leb-true, eqb-false}
 use native.Mathlib.Omega.{arith}
 use lib.Count.{ones, onesIn}
-use lib.Dec.{leb, eqb}
+use lib.Dec.{leb}
 use lib.ListN.{length}
-use Rattle.laws.proofs.Tests.{by-cases, both-true}
+use Rattle.laws.proofs.Tests.{both-true}
 use Rattle.records.specs.declared.Record.{Record}
 use Rattle.records.specs.Record.{little, recordOf, InRange, AreBytes}
 use Rattle.bearers.specs.Bearer.{recordsIn, allBearers}
 use Rattle.bearers.specs.Admission.{total, those, turnsFrom, freeAt, verdict}
 use Rattle.bearers.specs.Sets as sets
 use Rattle.table.specs.declared.Answer.{Answer}
-use Rattle.table.specs.declared.Found.{Found}
-use Rattle.table.specs.declared.Found.the-variants.{At, Nothing}
 use Rattle.table.specs.declared.Station.{Station}
 use Rattle.table.specs.Cases.{Event, freshly, issuedLast, bytesIn, bearer, request, start}
-use Rattle.table.specs.Events.{about}
-use Rattle.table.specs.Fields.{wellFormed}
 use Rattle.table.specs.Impostors.{Stepper, Meets, RefusesAll, RepliesAlike, Echoes, IsFresh, EchoesLater, CountsAlike, Miscounts, Impostor, refusing, alike, echoing, echoing-later, counting-alike, miscounting}
-use Rattle.table.specs.Numbers.{isFree, anyOf, issueFrom}
-use Rattle.table.specs.Reached.{Reached, born}
-use Rattle.table.specs.Step.{stepOf, verdictsOf, repeatOf, admittedAt, admission, complete, taken, settled}
-use Rattle.table.specs.Table.{find, findFrom}
-use Rattle.table.proofs.Rows.{by-kind}
-use Rattle.table.proofs.Cases.{issued, start-small}
+use Rattle.table.specs.Numbers.{anyOf, issueFrom}
+use Rattle.table.specs.Reached.{Reached}
+use Rattle.table.specs.Step.{stepOf, verdictsOf}
+use Rattle.table.specs.Table.{findFrom}
+use Rattle.table.proofs.Cases.{issued, fresh-reached, start-small, request-small}
+use Rattle.table.proofs.Parts.{Part, as-refusal, as-response, as-failure, as-grant, as-start, as-reset, as-idle, as-tick, as-event, part}
+use Rattle.table.proofs.Soundness.{born-as}
 
 -- The step meets the contract.
 pub step-meets : Meets (λ s e bearers verdicts. (stepOf s e bearers (length verdicts), verdictsOf s e bearers verdicts))
@@ -54,9 +51,6 @@ bytes-by (b ∷ bs) t (suc i) = bytes-by bs (both-true (leb b 255) (areBytes bs)
 abbrev pair : ℕ → ℕ → Event
 pair a b = request (bearer 1 9 1 a ∷ bearer 2 9 1 b ∷ [])
 
-request-small : InRange (pair 0 0 .event)
-request-small = record { kind = omega arith; neighbour = omega arith; old = omega arith; new = omega arith; first = omega arith; second = omega arith; reason = omega arith; byte11 = omega arith; number = omega arith; time = omega arith; erab = omega arith; qci = omega arith; priority = omega arith; flags = omega arith; bytes28 = omega arith }
-
 -- ---- the count
 
 -- The count of a request's answer is the number of ones in the first set of its message: where none is sent or it is a failure, 0.
@@ -67,34 +61,36 @@ none-counted : 0 ≡ ones 0
 unfolding ones
 none-counted = refl
 
-module _ (s : Station) (e : Record) (bearers : List ℕ) where
-  admitted-counted : (free : Found) → Counted (admittedAt e bearers free s)
-  admitted-counted Nothing = none-counted
-  admitted-counted (At i) = by-cases (eqb (admission bearers s .admitted) 0) (λ t. rw t none-counted) (λ t. rw t)
+module _ (s : Station) (e : Record) (bearers : List ℕ) (room : ℕ) (one : e .kind ≡ 1) where
+  part-counted : {a : Answer} → Part s e bearers room a → Counted a
+  part-counted (as-refusal n _ _) = none-counted
+  part-counted (as-response _) = none-counted
+  part-counted (as-failure n _ _ _) = none-counted
+  part-counted (as-grant i _ _ _ _ _) = refl
+  part-counted (as-start i _ nine _) = absurd (omega arith)
+  part-counted (as-reset _) = none-counted
+  part-counted (as-idle _ _) = none-counted
+  part-counted (as-tick i _ fifteen _) = absurd (omega arith)
+  part-counted (as-event i _ single _) = absurd (true≢false (rw one at (single .request)))
 
-  repeat-counted : (found : Found) → Counted (repeatOf e bearers found s)
-  repeat-counted (At i) = none-counted
-  repeat-counted Nothing = admitted-counted (find isFree s)
-
-pub request-counted : (s : Station) (e : Record) (bearers : List ℕ) (room : ℕ) → e .kind ≡ 1 → Counted (stepOf s e bearers room)
-request-counted s e bearers room kind =
-    by-cases (wellFormed e)
-    (λ t. subst Counted (sym (by-kind s e bearers room t 1 kind))
-    (by-cases (complete e bearers room) (λ u. rw u (repeat-counted s e (taken e bearers) (find (about e) s))) (λ u. rw u none-counted)))
-    (λ t. rw t none-counted)
+  pub request-counted : Counted (stepOf s e bearers room)
+  request-counted = part-counted (part s e bearers room)
 
 -- ---- the impostors
 
 module _ (f : Stepper) (meets : Meets f) where
-  -- A start at a fresh station, and at one that issued 0; and two bearers at a fresh one.
+  -- It answers as the step does: a start at a fresh station, and at one that issued 0; and two bearers at a fresh one.
+  answers : (s : Station) → Reached s → (e : Record) → InRange e → (bearers verdicts : List ℕ) → AreBytes bearers → AreBytes verdicts → f s e bearers verdicts .0 ≡ stepOf s e bearers (length verdicts)
+  answers s reached e small bearers verdicts bytes room = ap (λ (r : Answer × List ℕ). r .0) (meets s reached e small bearers verdicts bytes room)
+
   at-birth : f freshly (start .event) [] [] .0 ≡ stepOf freshly (start .event) [] 0
-  at-birth = ap (λ (r : Answer × List ℕ). r .0) (meets freshly (born 100 50 2000 3000) (start .event) start-small [] [] (bytes-by [] refl) (bytes-by [] refl))
+  at-birth = answers freshly fresh-reached (start .event) start-small [] [] (bytes-by [] refl) (bytes-by [] refl)
 
   later : f (issuedLast 0) (start .event) [] [] .0 ≡ stepOf (issuedLast 0) (start .event) [] 0
-  later = ap (λ (r : Answer × List ℕ). r .0) (meets (issuedLast 0) (issued 0 (omega arith)) (start .event) start-small [] [] (bytes-by [] refl) (bytes-by [] refl))
+  later = answers (issuedLast 0) (issued 0 (omega arith)) (start .event) start-small [] [] (bytes-by [] refl) (bytes-by [] refl)
 
   asked : (bytes : List ℕ) → areBytes bytes ≡ true → f freshly (pair 0 0 .event) bytes (9 ∷ 9 ∷ []) .0 ≡ stepOf freshly (pair 0 0 .event) bytes 2
-  asked bytes t = ap (λ (r : Answer × List ℕ). r .0) (meets freshly (born 100 50 2000 3000) (pair 0 0 .event) request-small bytes (9 ∷ 9 ∷ []) (bytes-by bytes t) (bytes-by (9 ∷ 9 ∷ []) refl))
+  asked bytes t = answers freshly fresh-reached (pair 0 0 .event) (request-small (pair 0 0 .bearers) (omega arith)) bytes (9 ∷ 9 ∷ []) (bytes-by bytes t) (bytes-by (9 ∷ 9 ∷ []) refl)
 
   -- A start at a fresh station is done.
   pub not-refusing : RefusesAll f → ⊥
@@ -118,7 +114,7 @@ module _ (f : Stepper) (meets : Meets f) where
   -- So does the next: a station that issued 0 is not fresh.
   not-fresh : IsFresh (issuedLast 0) → ⊥
   not-fresh (capacity, prep, overall, guard, same) =
-      eqb-false 0 4095 refl (ap (λ (s : Station). s .last) same ∙ by-cases (settled capacity prep overall guard) (λ t. rw t) (λ t. rw t))
+      eqb-false 0 4095 refl (ap (λ (s : Station). s .last) same ∙ born-as (λ s. s .last ≡ 4095) (λ _ _ _ _. refl) capacity prep overall guard)
 
   pub not-echoing-later : EchoesLater f → ⊥
   unfolding findFrom anyOf issueFrom
@@ -135,7 +131,7 @@ module _ (f : Stepper) (meets : Meets f) where
 
   pub not-miscounting : Miscounts f → ⊥
   not-miscounting m =
-      let same = ap (λ (r : Answer × List ℕ). r .0) (meets (m .station) (m .reached) (m .event) (m .in-range) (m .bearers) (m .verdicts) (m .bytes) (m .room)) in
+      let same = answers (m .station) (m .reached) (m .event) (m .in-range) (m .bearers) (m .verdicts) (m .bytes) (m .room) in
       m .wrong (subst Counted (sym same) (request-counted (m .station) (m .event) (m .bearers) (length (m .verdicts)) (m .kind)))
 
 -- No impostor meets the contract.

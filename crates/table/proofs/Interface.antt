@@ -4,7 +4,7 @@ use mathlib.Core.Path.{_≡_, refl, sym, ap, _∙_}
 use mathlib.Core.Bool.{true, false, _&&_, true≢false, false≢true}
 use mathlib.Core.Logic.{_⊎_, inl, inr, ⊎-elim}
 use mathlib.Core.List.{List, []}
-use mathlib.Core.Option.{none, some}
+use mathlib.Core.Option.{none, some, Option·none-ne-some, Option·some-ne-none}
 use borrow.Author.Tests.{eqb-true, eq-eqb, ne-eqb, le-leb, lt-leb}
 use native.Mathlib.Omega.{arith}
 use lib.Dec.{leb, eqb}
@@ -17,20 +17,20 @@ use Rattle.table.specs.declared.Station.{Station}
 use Rattle.table.specs.Numbers.{isFree, blank, own}
 use Rattle.table.specs.Reached.{Reached}
 use Rattle.table.specs.Sound.{Sound, ownTimes}
-use Rattle.table.specs.Step.{stepOf, bornOf, settled, issue, started, heldFor}
+use Rattle.table.specs.Step.{stepOf, bornOf, issue, started, heldFor}
 use Rattle.table.specs.Views.{count, times, ownIds, ids, last, someOut, someHeld, outOf, heldOf, dueOf, named, out, held, due, sent, to, issued, Issues, IssuesNone, Source, asks, keeps, Target, grants, holds, Laws, StepLaws}
 use Rattle.table.proofs.Answers.{takes-of, nine-of}
 use Rattle.table.proofs.Making.{made-issues, made, made-same}
 use Rattle.table.proofs.Sides.{nothing-new, turned-issues-none, turned-source, turned-target, turned-due}
-use Rattle.table.proofs.Soundness.{sound, sound-step}
-use Rattle.table.proofs.Tally.{tally-at, tally-le-at, tally-each}
+use Rattle.table.proofs.Soundness.{born-as, sound, sound-step}
+use Rattle.table.proofs.Tally.{tally-at, tally-le, tally-each}
 use Rattle.table.proofs.Turns.{Turn, starts, admits, turns, turn}
 use Rattle.table.proofs.Viewing.{passes, count-own, times-own, named-at}
 
 -- A fresh station has no record, and is as if 4,095 had been issued.
 pub fresh : (capacity prep overall guard : ℕ) → (ids (bornOf capacity prep overall guard) ≡ []) × (last (bornOf capacity prep overall guard) ≡ 4095)
 unfolding ids ownIds last
-fresh capacity prep overall guard = by-cases (settled capacity prep overall guard) (λ t. rw t (refl, refl)) (λ t. rw t (refl, refl))
+fresh = born-as (λ s. (ids s ≡ []) × (last s ≡ 4095)) (λ _ _ _ _. (refl, refl))
 
 -- ---- the laws of a station
 
@@ -62,7 +62,7 @@ module _ (s : Station) (sound : Sound s) where
   small : count (leb 4096) (ids s) ≡ 0
   unfolding ids
   small =
-      let none = tally-le-at (passes (leb 4096)) (λ r. 0) (s .entries) blank (λ j h. each (getD (s .entries) j blank) (sound .fit j (omega (arith, sound .places)) .id)) in
+      let none = tally-le (passes (leb 4096)) (λ r. 0) (s .entries) (s .entries) refl (λ j h. each (getD (s .entries) j blank) (sound .fit j (omega (arith, sound .places)) .id)) in
       omega (arith, count-own (leb 4096) (s .entries), tally-each 0 (s .entries))
     where
       each : (r : Entry) → own r < 4096 → passes (leb 4096) r ≤ 0
@@ -90,13 +90,11 @@ module _ (s : Station) (sound : Sound s) (e : Record) where
       rw (← same) (made-issues s sound k found (heldFor e admission s) refl refl a refl)
   issue-of (turns t) i new =
       let word = nothing-new (t .says) in
-      let never : none ≡ some i = rw (word .0, word .1) at new in
-      let bad : _≡_ {A = ℕ} 0 1 = cc in
-      absurd (omega arith)
+      absurd (Option·none-ne-some i (rw (word .0, word .1) at new))
 
   none-of : {a : Answer} → Turn s e a → Sound (a .station) → issued a ≡ none → IssuesNone s a
-  none-of (starts k found formed nine) after old = let bad : _≡_ {A = ℕ} 0 1 = cc in absurd (omega arith)
-  none-of (admits k found formed one admission) after old = let bad : _≡_ {A = ℕ} 0 1 = cc in absurd (omega arith)
+  none-of (starts k found formed nine) after old = absurd (Option·some-ne-none (issue s) old)
+  none-of (admits k found formed one admission) after old = absurd (Option·some-ne-none (issue s) old)
   none-of {a} (turns t) after old = turned-issues-none s sound e a after t
 
   source-of : {a : Answer} → Turn s e a → Sound (a .station) → (p : ℕ) → Source p s e a

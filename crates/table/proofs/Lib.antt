@@ -17,6 +17,7 @@ pub mod Making
 pub mod Neighbours
 pub mod Once
 pub mod Orderless
+pub mod Parts
 pub mod Placing
 pub mod Replies
 pub mod Requests
@@ -26,6 +27,7 @@ pub mod Sides
 pub mod Soundness
 pub mod Strangers
 pub mod Tally
+pub mod Tests
 pub mod Ticks
 pub mod Turns
 pub mod Units

@@ -18,12 +18,11 @@ use Rattle.table.specs.Sound.{Sound}
 use Rattle.table.specs.Step.{issue}
 use Rattle.table.specs.Table.{find, add}
 use Rattle.table.specs.Views.{count, ids, last, named, Issues}
-use Rattle.table.proofs.Counting.{issue-unused}
-use Rattle.table.proofs.Finding.{found-at}
-use Rattle.table.proofs.Orderless.{none-at}
+use Rattle.table.proofs.Counting.{own-equal, issue-unused}
+use Rattle.table.proofs.Finding.{found-here, set-each}
 use Rattle.table.proofs.Placing.{found-place}
-use Rattle.table.proofs.Tally.{tally-at, tally-set}
-use Rattle.table.proofs.Viewing.{passes, count-own, own-length, own-equal, walk-to, named-none, named-is, over}
+use Rattle.table.proofs.Tally.{tally-set, tally-found, none-at}
+use Rattle.table.proofs.Viewing.{passes, count-own, own-length, walk-to, named-none, named-is, over}
 
 -- A record was made: none had the own ID, it is found by that now, and by every other own ID the same is found as before.
 pub record Made (s after : Station) (r : Entry) : Type 0 where
@@ -40,20 +39,17 @@ made-same {s = s} m view same i =
 
 module _ (s : Station) (sound : Sound s) (k : ℕ) (found : find isFree s ≡ At k) (r : Entry) (mine : own r ≡ issue s) (live : isFree r ≡ false) where
   place : k < length (s .entries)
-  place = omega (arith, found-place s sound isFree k found, sound .places)
+  place = found-here isFree s k found .0
 
   free : isFree (getD (s .entries) k blank) ≡ true
-  free =
-      let there = found-at isFree (s .entries) 0 k blank found in
-      let same : there .0 ≡ k = omega (arith, there .1) in
-      rw same at (there .3)
+  free = found-here isFree s k found .1
 
   -- The own ID is the first that was not in use, and it alone is new.
   pub made-issues : (a : Answer) → a .station ≡ add k (issue s) r s → Issues (issue s) s a
   unfolding ids last
   made-issues a is =
       record {
-        room = omega (arith, own-length (s .entries), sound .places, rw free at (tally-at (λ x. cond (isFree x) 1 0) (s .entries) k blank place));
+        room = omega (arith, own-length (s .entries), sound .places, tally-found isFree s k found);
         walk = walk-to 64 (s .last) (s .entries) (issue-unused s sound k found);
         latest = rw is;
         more = λ test. rw is (more test);
@@ -88,6 +84,6 @@ module _ (s : Station) (sound : Sound s) (k : ℕ) (found : find isFree s ≡ At
           over s (add k (issue s) r s) sound after i (λ x y. y ≡ x) refl
           (λ j h its. getD-set-other (s .entries) k j r blank (λ same. true≢false (sym its ∙ rw same (unowned i (getD (s .entries) k blank) free))))
           (λ j h. inr
-          (by-cases (eqb j k)
-          (λ t. rw (eqb-true j k t, at-place, own-equal i r, live, mine, ne-eqb i (issue s) other) (sym (unowned i (getD (s .entries) k blank) free)))
-          (λ t. rw (getD-set-other (s .entries) k j r blank (eqb-false j k t)))))
+          (set-each (λ j x. ownIs i x ≡ ownIs i (getD (s .entries) j blank)) (s .entries) k r place
+          (rw (own-equal i r, live, mine, ne-eqb i (issue s) other) (sym (unowned i (getD (s .entries) k blank) free)))
+          (λ j _. refl) j))

@@ -1,13 +1,12 @@
 -- What a neighbour's message changes, and what its answer depends on.
 use Prim.Native.Nat.{ℕ, _+_, _≤_}
 use mathlib.Core.Path.{_≡_, refl, _∙_, sym, ap}
-use mathlib.Core.Bool.{true, false, not, _||_, true≢false}
+use mathlib.Core.Bool.{true, false, not, true≢false}
 use mathlib.Core.List.{List}
 use borrow.Author.Tests.{eqb-true, eqb-false}
-use native.Mathlib.Omega.{arith}
 use lib.Dec.{eqb}
 use lib.ListN.{getD, set}
-use lib.Seq.{getD-set-same, getD-set-other}
+use lib.Seq.{getD-set-other}
 use Rattle.laws.proofs.Tests.{by-cases, both-true}
 use Rattle.records.specs.declared.Record.{Record}
 use Rattle.table.specs.declared.Entry.{Entry}
@@ -17,13 +16,14 @@ use Rattle.table.specs.declared.Station.{Station}
 use Rattle.table.specs.Events.{about, actionOf, decide}
 use Rattle.table.specs.Fields.{wellFormed}
 use Rattle.table.specs.Numbers.{isFree, blank}
-use Rattle.table.specs.Step.{aboutOne, resetOf, stepOf}
+use Rattle.table.specs.Step.{aboutOne, isReset, stepOf}
 use Rattle.table.specs.Table.{find, reset}
 use Rattle.table.proofs.Deciding.{stands}
-use Rattle.table.proofs.Finding.{found-at}
+use Rattle.table.proofs.Finding.{found-here, set-each}
 use Rattle.table.proofs.Fits.{decided-keeps}
 use Rattle.table.proofs.Keys.{isOf}
 use Rattle.table.proofs.Resetting.{reset-at}
+use Rattle.table.proofs.Rows.{reset-kind, step-reset}
 use Rattle.table.proofs.Strangers.{concernsNeighbour, about-of, answers-concern, step-about}
 
 -- ---- what it changes
@@ -49,19 +49,15 @@ module _ (s : Station) (e : Record) (concerns : concernsNeighbour (e .kind) ≡ 
   about-keeps Nothing _ =
       record { others = λ _ _. refl; its = λ _ of _. of; clock = refl; last = refl; capacity = refl; prep = refl; overall = refl; guard = refl }
   about-keeps (At k) found =
-      let here = found-at (about e) (s .entries) 0 k blank found in
-      let place : here .0 ≡ k = omega (arith, here .1) in
-      let mine : about e (getD (s .entries) k blank) ≡ true = rw place at (here .3) in
+      let here = found-here (about e) s k found in
       let x = getD (s .entries) k blank in
       let r = decide e x (s .clock + s .overall) .entry in
-      let put-here = getD-set-same (s .entries) k r blank (omega (arith, here .1, here .2)) in
+      let its-own = both-true (not (isFree x)) (eqb (x .neighbour) (e .neighbour)) (about-of e x concerns (here .1)) .1 in
       record {
-        others = λ i other. getD-set-other (s .entries) k i r blank (λ same. true≢false (sym mine ∙ not-about e (getD (s .entries) k blank) concerns (rw same at other)));
-        its = λ i of used. by-cases (eqb i k)
-            (λ u.
-            let left : isFree r ≡ false = rw (eqb-true i k u, put-here) at used in
-            rw (eqb-true i k u, put-here, left) (rw (← decided-keeps e x (s .clock + s .overall) left .0) at (both-true (not (isFree x)) (eqb (x .neighbour) (e .neighbour)) (about-of e x concerns mine) .1)))
-            (λ u. rw (getD-set-other (s .entries) k i r blank (eqb-false i k u)) of);
+        others = λ i other. getD-set-other (s .entries) k i r blank (λ same. true≢false (sym (here .1) ∙ not-about e x concerns (rw same at other)));
+        its = set-each (λ i y. isOf (e .neighbour) (getD (s .entries) i blank) ≡ true → isFree y ≡ false → isOf (e .neighbour) y ≡ true) (s .entries) k r (here .0)
+            (λ _ left. rw left (rw (← decided-keeps e x (s .clock + s .overall) left .0) at its-own))
+            (λ i _ of _. of);
         clock = refl;
         last = refl;
         capacity = refl;
@@ -83,11 +79,6 @@ module _ (s : Station) (e : Record) (concerns : concernsNeighbour (e .kind) ≡ 
         guard = refl;
       }
 
--- What holds of 7 and 14 holds of a reset's kind.
-pub reset-kind : (P : ℕ → Type 0) (k : ℕ) → P 7 → P 14 → (eqb k 7 || eqb k 14) ≡ true → P k
-reset-kind P k seven fourteen t =
-    by-cases (eqb k 7) (λ u. rw (eqb-true k 7 u) seven) (λ u. rw (eqb-true k 14 (rw u at t)) fourteen)
-
 module _ (s : Station) (e : Record) (bearers : List ℕ) (room : ℕ) (formed : wellFormed e ≡ true) where
   -- An acknowledge, failure, status, release or cancel leaves every place but its sender's records as it was, and the clock, the last
   -- own ID and the settings.
@@ -103,17 +94,11 @@ module _ (s : Station) (e : Record) (bearers : List ℕ) (room : ℕ) (formed : 
       at-one Nothing = (0, λ _ _. refl)
       at-one (At k) = (k, λ i other. getD-set-other (s .entries) k i (decide e (getD (s .entries) k blank) (s .clock + s .overall) .entry) blank other)
 
-  -- The kinds 7 and 14 are resets.
-  pub step-reset : (eqb (e .kind) 7 || eqb (e .kind) 14) ≡ true → stepOf s e bearers room ≡ resetOf e s
-  step-reset t =
-      let other : (n : ℕ) → eqb 7 n ≡ false → eqb 14 n ≡ false → eqb (e .kind) n ≡ false = λ n x y. reset-kind (λ k. eqb k n ≡ false) (e .kind) x y t in
-      rw (formed, other 1 refl refl, other 9 refl refl, other 15 refl refl, t)
-
   -- A reset, and the loss of a neighbour, leave every place but that neighbour's records as it was, and the clock, the last own ID and
   -- the settings.
-  pub reset-keeps-others : (eqb (e .kind) 7 || eqb (e .kind) 14) ≡ true → OthersKept (e .neighbour) s (stepOf s e bearers room .station)
+  pub reset-keeps-others : isReset (e .kind) ≡ true → OthersKept (e .neighbour) s (stepOf s e bearers room .station)
   reset-keeps-others t =
-      rw (step-reset t) (reset-keeps s e (reset-kind (λ k. concernsNeighbour k ≡ true) (e .kind) refl refl t))
+      rw (step-reset s e bearers room formed t) (reset-keeps s e (reset-kind (λ k. concernsNeighbour k ≡ true) (e .kind) refl refl t))
 
 -- ---- what it depends on
 

@@ -1,9 +1,9 @@
 -- Where in the table a neighbour's records stand does not matter.
 use Prim.Native.Nat.{ℕ, _+_, _≤_, _<_}
 use mathlib.Core.Path.{_≡_, refl, _∙_, sym, ap, subst}
-use mathlib.Core.Bool.{Bool, true, false, cond, not, _&&_, _||_, true≢false, false≢true}
+use mathlib.Core.Bool.{Bool, true, false, not, _&&_, _||_, true≢false, false≢true}
 use mathlib.Core.List.{List}
-use borrow.Author.Tests.{eqb-true, eqb-false, eq-eqb, le-leb, leb-true, leb-false, not-true}
+use borrow.Author.Tests.{eqb-true, eqb-false, eq-eqb, le-leb, leb-true, not-true}
 use native.Mathlib.Omega.{arith}
 use lib.Dec.{leb, eqb}
 use lib.ListN.{length, getD, set, length-set}
@@ -18,16 +18,20 @@ use Rattle.table.specs.declared.Found.the-variants.{At, Nothing}
 use Rattle.table.specs.declared.Station.{Station}
 use Rattle.table.specs.Events.{about, decide, key}
 use Rattle.table.specs.Fields.{wellFormed}
-use Rattle.table.specs.Numbers.{isFree, isOutgoing, anyOf, blank, own}
+use Rattle.table.specs.Numbers.{isFree, blank, own}
 use Rattle.table.specs.Sound.{Sound, ownTimes, heldTimes}
-use Rattle.table.specs.Step.{aboutOne, carried, stepOf}
-use Rattle.table.specs.Table.{find, put, reset, tally}
-use Rattle.table.proofs.Finding.{found-at, found-none}
+use Rattle.table.specs.Step.{aboutOne, carried, isReset, stepOf}
+use Rattle.table.specs.Table.{find, put, tally, leftOf, reset}
+use Rattle.table.proofs.Counting.{own-itself}
+use Rattle.table.proofs.Finding.{found-here, found-none, set-each}
 use Rattle.table.proofs.Keys.{isOf, keyed-means}
-use Rattle.table.proofs.Neighbours.{decide-deadline, step-reset}
-use Rattle.table.proofs.Resetting.{after, reset-at}
-use Rattle.table.proofs.Strangers.{below-at, about-of, answers-concern, step-about}
-use Rattle.table.proofs.Tally.{tally-at, tally-set, tally-none}
+use Rattle.table.proofs.Neighbours.{decide-deadline}
+use Rattle.table.proofs.Placing.{found-place}
+use Rattle.table.proofs.Resetting.{reset-at}
+use Rattle.table.proofs.Rows.{step-reset}
+use Rattle.table.proofs.Strangers.{about-of, answers-concern, step-about}
+use Rattle.table.proofs.Tally.{tally-at, tally-set, none-at}
+use Rattle.table.proofs.Tests.{below-at}
 
 -- every record of a neighbour that one station has stands in another
 abbrev pub Has : ℕ → Station → Station → Type 0
@@ -49,58 +53,43 @@ once-at f rs i j none h k once first second =
     let more = tally-at f (set rs i blank) j blank (omega (arith, length-set rs i blank)) in
     absurd (omega (arith, rw (getD-set-other rs i j blank blank (eqb-false j i t)) at more)))
 
--- A record has its own ID.
-pub own-itself : (r : Entry) → isFree r ≡ false → ownTimes (own r) r ≡ 1
-own-itself r used =
-    by-cases (isOutgoing r) (λ t. rw (t, eq-eqb (r .old .0) (r .old .0) refl))
-    (λ t.
-    let late : 3 ≤ r .state =
-    by-cases (leb (r .state) 2)
-    (λ u. absurd (true≢false (sym (rw (u, le-leb 1 (r .state) (omega (arith, eqb-false (r .state) 0 used)))) ∙ t)))
-    (λ u. omega (arith, leb-false (r .state) 2 u)) in
-    rw (t, le-leb 3 (r .state) late, eq-eqb (r .new .0) (r .new .0) refl))
-
 -- By one test of the table of keys: the kinds 2 to 6 compare neighbour and Old ID, and look at outgoing records or at held ones.
-abbrev telling : ℕ → Bool
-telling k = not (eqb (key k 2) 0) && not (eqb (key k 3) 0) && (leb 1 (key k 0) && leb (key k 1) 2 || eqb (key k 0) 3 && eqb (key k 1) 3)
+abbrev looksOut : ℕ → Bool
+looksOut k = leb 1 (key k 0) && leb (key k 1) 2
 
-tells : (k : ℕ) → 2 ≤ k → k ≤ 6 → telling k ≡ true
-tells k low high = rw (le-leb 2 k low, le-leb k 6 high) at (below-at (λ j. not (leb 2 j && leb j 6) || telling j) 7 k refl (omega arith))
+abbrev looksHeld : ℕ → Bool
+looksHeld k = eqb (key k 0) 3 && eqb (key k 1) 3
+
+abbrev telling : ℕ → Bool
+telling k = not (eqb (key k 2) 0) && not (eqb (key k 3) 0) && (looksOut k || looksHeld k)
+
+tells : (k : ℕ) → 2 ≤ k → k ≤ 6 → (eqb (key k 2) 0 ≡ false) × (eqb (key k 3) 0 ≡ false) × ((looksOut k || looksHeld k) ≡ true)
+tells k low high =
+    let all : telling k ≡ true = rw (le-leb 2 k low, le-leb k 6 high) at (below-at 7 (λ j. not (leb 2 j && leb j 6) || telling j) k refl (omega arith)) in
+    let both = both-true (not (eqb (key k 2) 0) && not (eqb (key k 3) 0)) (looksOut k || looksHeld k) all in
+    let each = both-true (not (eqb (key k 2) 0)) (not (eqb (key k 3) 0)) (both .0) in
+    (not-true (eqb (key k 2) 0) (each .0), not-true (eqb (key k 3) 0) (each .1), both .1)
 
 module _ (e : Record) (low : 2 ≤ e .kind) (high : e .kind ≤ 6) where
-  compared : (eqb (key (e .kind) 2) 0 ≡ false) × (eqb (key (e .kind) 3) 0 ≡ false)
-  compared =
-      let outgoing = leb 1 (key (e .kind) 0) && leb (key (e .kind) 1) 2 in
-      let held = eqb (key (e .kind) 0) 3 && eqb (key (e .kind) 1) 3 in
-      let two = both-true (not (eqb (key (e .kind) 2) 0) && not (eqb (key (e .kind) 3) 0)) (outgoing || held) (tells (e .kind) low high) .0 in
-      let each = both-true (not (eqb (key (e .kind) 2) 0)) (not (eqb (key (e .kind) 3) 0)) two in
-      (not-true (eqb (key (e .kind) 2) 0) (each .0), not-true (eqb (key (e .kind) 3) 0) (each .1))
-
-  looked : (leb 1 (key (e .kind) 0) && leb (key (e .kind) 1) 2 || eqb (key (e .kind) 0) 3 && eqb (key (e .kind) 1) 3) ≡ true
-  looked =
-      let outgoing = leb 1 (key (e .kind) 0) && leb (key (e .kind) 1) 2 in
-      let held = eqb (key (e .kind) 0) 3 && eqb (key (e .kind) 1) 3 in
-      both-true (not (eqb (key (e .kind) 2) 0) && not (eqb (key (e .kind) 3) 0)) (outgoing || held) (tells (e .kind) low high) .1
-
   -- So a record that such an event is about is an outgoing one of its Old ID, or one held for its neighbour and its Old ID.
-  outgoing-told : (r : Entry) → leb 1 (key (e .kind) 0) && leb (key (e .kind) 1) 2 ≡ true → about e r ≡ true → ownTimes (e .old .0) r ≡ 1
+  outgoing-told : (r : Entry) → looksOut (e .kind) ≡ true → about e r ≡ true → ownTimes (e .old .0) r ≡ 1
   outgoing-told r outgoing t =
       let keys = keyed-means (key (e .kind)) e r t in
       let both = both-true (leb 1 (key (e .kind) 0)) (leb (key (e .kind) 1) 2) outgoing in
       let least = leb-true 1 (key (e .kind) 0) (both .0) in
       let most = leb-true (key (e .kind) 1) 2 (both .1) in
-      let old : eqb (r .old .0) (e .old .0) ≡ true = rw (compared .1) at (keys .old) in
+      let old : eqb (r .old .0) (e .old .0) ≡ true = rw (tells (e .kind) low high .1) at (keys .old) in
       rw (le-leb 1 (r .state) (omega arith), le-leb (r .state) 2 (omega arith), old)
 
-  held-told : (r : Entry) → eqb (key (e .kind) 0) 3 && eqb (key (e .kind) 1) 3 ≡ true → about e r ≡ true → heldTimes (e .neighbour) (e .old .0) r ≡ 1
+  held-told : (r : Entry) → looksHeld (e .kind) ≡ true → about e r ≡ true → heldTimes (e .neighbour) (e .old .0) r ≡ 1
   held-told r held t =
       let keys = keyed-means (key (e .kind)) e r t in
       let both = both-true (eqb (key (e .kind) 0) 3) (eqb (key (e .kind) 1) 3) held in
       let least = eqb-true (key (e .kind) 0) 3 (both .0) in
       let most = eqb-true (key (e .kind) 1) 3 (both .1) in
       let three : r .state ≡ 3 = omega arith in
-      let neighbour : eqb (r .neighbour) (e .neighbour) ≡ true = rw (compared .0) at (keys .neighbour) in
-      let old : eqb (r .old .0) (e .old .0) ≡ true = rw (compared .1) at (keys .old) in
+      let neighbour : eqb (r .neighbour) (e .neighbour) ≡ true = rw (tells (e .kind) low high .0) at (keys .neighbour) in
+      let old : eqb (r .old .0) (e .old .0) ≡ true = rw (tells (e .kind) low high .1) at (keys .old) in
       rw (eq-eqb (r .state) 3 three, neighbour, old)
 
   -- An acknowledge, failure, status, release or cancel is about one record of a sound station at the most.
@@ -110,10 +99,10 @@ module _ (e : Record) (low : 2 ≤ e .kind) (high : e .kind ≤ 6) where
       let within : j < length (s .entries) = omega (arith, sound .places) in
       let x = getD (s .entries) i blank in
       let y = getD (s .entries) j blank in
-      by-cases (leb 1 (key (e .kind) 0) && leb (key (e .kind) 1) 2)
+      by-cases (looksOut (e .kind))
       (λ u. once-at (ownTimes (e .old .0)) (s .entries) i j refl inside within (sound .distinct (e .old .0)) (outgoing-told x u first) (outgoing-told y u second))
       (λ u.
-      let held : eqb (key (e .kind) 0) 3 && eqb (key (e .kind) 1) 3 ≡ true = rw u at looked in
+      let held : looksHeld (e .kind) ≡ true = rw u at (tells (e .kind) low high .2) in
       once-at (heldTimes (e .neighbour) (e .old .0)) (s .entries) i j refl inside within (sound .unique (e .neighbour) (e .old .0)) (held-told x held first) (held-told y held second))
 
 -- A record stands at one place of a sound station only.
@@ -129,24 +118,13 @@ of-used : (n : ℕ) (r : Entry) → isOf n r ≡ true → isFree r ≡ false
 of-used n r t = not-true (isFree r) (both-true (not (isFree r)) (eqb (r .neighbour) n) t .0)
 
 has-put : (n : ℕ) (s t : Station) → Sound s → Sound t → (i j : ℕ) (r : Entry) → i < 64 → j < 64 → getD (t .entries) j blank ≡ getD (s .entries) i blank → Has n s t → Has n (put i r s) (put j r t)
-has-put n s t sound other i j r h k same has p small mine =
-    by-cases (eqb p i)
-    (λ u. (j, k, getD-set-same (t .entries) j r blank (omega (arith, other .places)) ∙ sym (rw (eqb-true p i u) (getD-set-same (s .entries) i r blank (omega (arith, sound .places))))))
-    (λ u.
-    let kept = getD-set-other (s .entries) i p r blank (eqb-false p i u) in
-    let of : isOf n (getD (s .entries) p blank) ≡ true = rw kept at mine in
+has-put n s t sound other i j r h k same has =
+    set-each (λ p x. p < 64 → isOf n x ≡ true → (q : ℕ) × (q < 64) × (getD (set (t .entries) j r) q blank ≡ x)) (s .entries) i r (omega (arith, sound .places))
+    (λ _ _. (j, k, getD-set-same (t .entries) j r blank (omega (arith, other .places))))
+    (λ p apart small of.
     let found = has p small of in
-    let apart : found .0 ≡ j → ⊥ = λ here. eqb-false p i u (stands-once s sound p i small h (of-used n (getD (s .entries) p blank) of) (sym same ∙ rw here at (found .2))) in
-    (found .0, found .1, getD-set-other (t .entries) j (found .0) r blank apart ∙ found .2 ∙ sym kept))
-
--- Where a test holds of no record, it fails at every place.
-pub none-at : (test : Entry → Bool) (rs : List Entry) (i : ℕ) → i < length rs → anyOf test rs ≡ false → test (getD rs i blank) ≡ false
-none-at test rs i h none =
-    by-cases (test (getD rs i blank))
-    (λ t.
-    let zero = tally-none (λ r. cond (test r) 1 0) test rs (λ r u. rw u) none in
-    absurd (omega (arith, rw t at (tally-at (λ r. cond (test r) 1 0) rs i blank h))))
-    (λ t. t)
+    let elsewhere : found .0 ≡ j → ⊥ = λ here. apart (stands-once s sound p i small h (of-used n (getD (s .entries) p blank) of) (sym same ∙ rw here at (found .2))) in
+    (found .0, found .1, getD-set-other (t .entries) j (found .0) r blank elsewhere ∙ found .2))
 
 -- ---- the answer
 
@@ -157,11 +135,8 @@ pub record SameAnswer (n : ℕ) (a b : Answer) : Type 0 where
 
 module _ (e : Record) (low : 2 ≤ e .kind) (high : e .kind ≤ 6) where
   -- A place that is found, and what is found there.
-  found-here : (s : Station) → Sound s → (i : ℕ) → find (about e) s ≡ At i → (i < 64) × (about e (getD (s .entries) i blank) ≡ true)
-  found-here s sound i found =
-      let here = found-at (about e) (s .entries) 0 i blank found in
-      let place : here .0 ≡ i = omega (arith, here .1) in
-      (omega (arith, here .1, here .2, sound .places), rw place at (here .3))
+  finds : (s : Station) → Sound s → (i : ℕ) → find (about e) s ≡ At i → (i < 64) × (about e (getD (s .entries) i blank) ≡ true)
+  finds s sound i found = (found-place s sound (about e) i found, found-here (about e) s i found .1)
 
   -- What the one station has, the other finds.
   counterpart : (s t : Station) → Has (e .neighbour) s t → (i : ℕ) → i < 64 → about e (getD (s .entries) i blank) ≡ true → (j : ℕ) × (j < 64) × (getD (t .entries) j blank ≡ getD (s .entries) i blank) × (about e (getD (t .entries) j blank) ≡ true)
@@ -171,7 +146,7 @@ module _ (e : Record) (low : 2 ≤ e .kind) (high : e .kind ≤ 6) where
 
   never : (s t : Station) → Sound s → Sound t → Has (e .neighbour) s t → (i : ℕ) → find (about e) s ≡ At i → find (about e) t ≡ Nothing → ⊥
   never s t sound other has i found none =
-      let here = found-here s sound i found in
+      let here = finds s sound i found in
       let there = counterpart s t has i (here .0) (here .1) in
       true≢false (sym (there .3) ∙ none-at (about e) (t .entries) (there .0) (omega (arith, there .1, other .places)) (found-none (about e) (t .entries) 0 none))
 
@@ -181,8 +156,8 @@ module _ (e : Record) (low : 2 ≤ e .kind) (high : e .kind ≤ 6) where
     answers Nothing (At j) none found = absurd (never t s other sound (same .back) j found none)
     answers (At i) Nothing found none = absurd (never s t sound other (same .there) i found none)
     answers (At i) (At j) first second =
-        let here = found-here s sound i first in
-        let there = found-here t other j second in
+        let here = finds s sound i first in
+        let there = finds t other j second in
         let twin = counterpart s t (same .there) i (here .0) (here .1) in
         let place : twin .0 ≡ j = about-once e low high t other (twin .0) j (twin .1) (there .0) (twin .3) (there .1) in
         let x = getD (s .entries) i blank in
@@ -212,15 +187,15 @@ message-depends-on-sender s t sound other e bearers more room space formed low h
 has-reset : (n : ℕ) (e : Record) (s t : Station) → Has n s t → Has n (reset e s) (reset e t)
 has-reset n e s t has p small mine =
     let x = getD (s .entries) p blank in
-    let left : isOf n (after e x) ≡ true = rw (reset-at e s p) at mine in
+    let left : isOf n (leftOf e x) ≡ true = rw (reset-at e s p) at mine in
     by-cases (about e x) (λ u. absurd (false≢true (rw u at left)))
     (λ u.
     let found = has p small (rw u at left) in
-    (found .0, found .1, reset-at e t (found .0) ∙ ap (after e) (found .2) ∙ sym (reset-at e s p)))
+    (found .0, found .1, reset-at e t (found .0) ∙ ap (leftOf e) (found .2) ∙ sym (reset-at e s p)))
 
 -- A reset, and the loss of a neighbour, are answered the same by every station, and where two have the same records of that neighbour,
 -- they have the same afterwards.
-pub reset-depends-on-none : (s t : Station) (e : Record) (bearers more : List ℕ) (room space : ℕ) → wellFormed e ≡ true → (eqb (e .kind) 7 || eqb (e .kind) 14) ≡ true
+pub reset-depends-on-none : (s t : Station) (e : Record) (bearers more : List ℕ) (room space : ℕ) → wellFormed e ≡ true → isReset (e .kind) ≡ true
     → Same (e .neighbour) s t → SameAnswer (e .neighbour) (stepOf s e bearers room) (stepOf t e more space)
 reset-depends-on-none s t e bearers more room space formed kinds same =
     rw (step-reset s e bearers room formed kinds, step-reset t e more space formed kinds)

@@ -13,15 +13,13 @@ use Rattle.table.specs.Numbers.{blank}
 use Rattle.table.specs.Sound.{Sound}
 use Rattle.table.specs.Table.{find, soonest, at, Puts}
 use Rattle.table.proofs.Deciding.{decide-units}
-use Rattle.table.proofs.Finding.{found-at, due-at}
+use Rattle.table.proofs.Finding.{found-here, due-at}
 use Rattle.table.proofs.Tally.{tally-at}
 
 module _ (s : Station) (sound : Sound s) where
   -- A place that is found is one of the 64.
   pub found-place : (test : Entry → Bool) (k : ℕ) → find test s ≡ At k → k < 64
-  found-place test k e =
-      let at = found-at test (s .entries) 0 k blank e in
-      omega (arith, at .1, at .2, sound .places)
+  found-place test k found = omega (arith, found-here test s k found .0, sound .places)
 
   pub due-place : (e : Record) (k : ℕ) → soonest e s ≡ At k → k < 64
   due-place e k found =

@@ -1,6 +1,6 @@
 -- What a judgement of a request's bearers says.
 use Prim.Native.Nat.{ℕ, _/_, _≤_}
-use mathlib.Core.Path.{_≡_}
+use mathlib.Core.Path.{_≡_, sym}
 use mathlib.Core.Bool.{true, false}
 use mathlib.Core.List.{List}
 use native.Mathlib.Omega.{arith}
@@ -13,23 +13,27 @@ use Rattle.bearers.specs.Bearer.{recordsIn, bearersIn, allBearers}
 use Rattle.bearers.specs.declared.Admission.{Admission}
 use Rattle.bearers.specs.declared.Judgement.the-variants.{Given, Malformed}
 
+-- What is given is not malformed.
+given-malformed : (a : Admission) → Given a ≡ Malformed → ⊥
+given-malformed a e = let bad : _≡_ {A = ℕ} 0 1 = cc in omega arith
+
 module _ (bytes : List ℕ) (free room : ℕ) where
+  abbrev admitted : Admission
+  admitted = admissionOf release8 free (bearersIn (length bytes / 32) bytes)
+
   -- Bearers that were judged can be, and what was admitted is the admission of them.
-  pub given : (a : Admission) → judgementOf bytes free room ≡ Given a → (judgeable bytes room ≡ true) × (admissionOf release8 free (bearersIn (length bytes / 32) bytes) ≡ a)
+  pub given : (a : Admission) → judgementOf bytes free room ≡ Given a → (judgeable bytes room ≡ true) × (admitted ≡ a)
   given a e =
       by-cases (judgeable bytes room)
-      (λ t. let same : Given (admissionOf release8 free (bearersIn (length bytes / 32) bytes)) ≡ Given a = rw t at e in (t, cc))
-      (λ t. let never : Malformed ≡ Given a = rw t at e in let z : _≡_ {A = ℕ} 0 1 = cc in absurd (omega arith))
+      (λ t. let same : Given admitted ≡ Given a = rw t at e in (t, cc))
+      (λ t. absurd (given-malformed a (sym (rw t at e))))
 
   -- Those that were not cannot be.
   pub malformed : judgementOf bytes free room ≡ Malformed → judgeable bytes room ≡ false
-  malformed e =
-      by-cases (judgeable bytes room)
-      (λ t. let never : Given (admissionOf release8 free (bearersIn (length bytes / 32) bytes)) ≡ Malformed = rw t at e in let z : _≡_ {A = ℕ} 0 1 = cc in absurd (omega arith))
-      (λ t. t)
+  malformed e = by-cases (judgeable bytes room) (λ t. absurd (given-malformed admitted (rw t at e))) (λ t. t)
 
   -- The units admitted are free ones.
-  pub units-free : judgeable bytes room ≡ true → admissionOf release8 free (bearersIn (length bytes / 32) bytes) .units ≤ free
+  pub units-free : judgeable bytes room ≡ true → admitted .units ≤ free
   units-free t =
-      let all = both-true (countable (length bytes) room) (allBearers (recordsIn (length bytes / 32) bytes)) t .1 in
-      admitted-le release8 free (bearersIn (length bytes / 32) bytes) (each-formed (recordsIn (length bytes / 32) bytes) all)
+      let records = recordsIn (length bytes / 32) bytes in
+      admitted-le release8 free (bearersIn (length bytes / 32) bytes) (each-formed records (both-true (countable (length bytes) room) (allBearers records) t .1))

@@ -14,42 +14,30 @@ use Rattle.table.specs.declared.Station.{Station}
 use Rattle.table.specs.Events.{key, keyed, about}
 use Rattle.table.specs.Numbers.{blank}
 use Rattle.table.specs.Sound.{Sound}
-use Rattle.table.specs.Table.{tally, Puts, put, reset}
+use Rattle.table.specs.Table.{holding, Puts, put, tally, leftOf, backOf, reset}
 use Rattle.table.proofs.Tally.{tally-append, tally-le}
-
--- what a reset makes of a record, and the units that it gives back
-abbrev pub after : Record → Entry → Entry
-after e r = cond (about e r) blank r
-
-abbrev pub back : Record → Entry → ℕ
-back e r = cond (about e r) (r .units) 0
+use Rattle.table.proofs.Tests.{same-choice}
 
 -- the record at a place ends, if an event is about it
 abbrev pub endedBy : (ℕ → ℕ) → ℕ → Record → Station → Station
 endedBy by i e s = cond (keyed by e (getD (s .entries) i blank)) (put i blank s) s
 
 -- A reset's table holds at each place what the reset makes of the record there.
-pub reset-at : (e : Record) (s : Station) (i : ℕ) → getD (reset e s .entries) i blank ≡ after e (getD (s .entries) i blank)
+pub reset-at : (e : Record) (s : Station) (i : ℕ) → getD (reset e s .entries) i blank ≡ leftOf e (getD (s .entries) i blank)
 reset-at e s i =
-    let same : after e blank ≡ blank = by-cases (about e blank) (λ t. rw t) (λ t. rw t) in
-    subst (λ d. getD (map (after e) (s .entries)) i d ≡ after e (getD (s .entries) i blank)) same (List·getD-map (after e) (s .entries) i blank)
+    subst (λ d. getD (map (leftOf e) (s .entries)) i d ≡ leftOf e (getD (s .entries) i blank)) (same-choice (about e blank) blank) (List·getD-map (leftOf e) (s .entries) i blank)
+
+-- It takes back no more than the record's units.
+pub back-le : (e : Record) (r : Entry) → backOf e r ≤ r .units
+back-le e r = by-cases (about e r) (λ t. rw t (omega arith)) (λ t. rw t (omega arith))
 
 -- the station with the records before a place reset
 abbrev pub partly : Record → ℕ → Station → Station
-partly e i s =
-    record {
-      entries = map (after e) (take i (s .entries)) ++ drop i (s .entries);
-      clock = s .clock;
-      last = s .last;
-      used = s .used - tally (back e) (take i (s .entries));
-      capacity = s .capacity;
-      prep = s .prep;
-      overall = s .overall;
-      guard = s .guard;
-    }
+partly e i s = holding (map (leftOf e) (take i (s .entries)) ++ drop i (s .entries)) (s .last) (s .used - tally (backOf e) (take i (s .entries))) s
 
-same-station : (s : Station) {xs ys : List Entry} {m n : ℕ} → xs ≡ ys → m ≡ n → _≡_ {A = Station} (record { entries = xs; clock = s .clock; last = s .last; used = m; capacity = s .capacity; prep = s .prep; overall = s .overall; guard = s .guard }) (record { entries = ys; clock = s .clock; last = s .last; used = n; capacity = s .capacity; prep = s .prep; overall = s .overall; guard = s .guard })
-same-station s p q = λ i. record { entries = p i; clock = s .clock; last = s .last; used = q i; capacity = s .capacity; prep = s .prep; overall = s .overall; guard = s .guard }
+-- Two stations are the same where their records and the units in use are.
+pub same-station : (s : Station) {xs ys : List Entry} {m n : ℕ} → xs ≡ ys → m ≡ n → holding xs (s .last) m s ≡ holding ys (s .last) n s
+same-station s p q = λ i. holding (p i) (s .last) (q i) s
 
 -- ---- a list of which the first elements have been changed
 
@@ -71,17 +59,17 @@ tally-next : (g : Entry → ℕ) (es : List Entry) (i : ℕ) → i < length es �
 unfolding tally
 tally-next g es i h = rw (add-one, take-suc es i blank h, tally-append g (take i es) (getD es i blank ∷ [])) (omega arith)
 
-module _ (e : Record) (s : Station) (sound : Sound s) where
-  -- Before the first place nothing is reset, after the last all.
-  pub partly-none : s ≡ partly e 0 s
-  unfolding tally
-  partly-none = same-station s refl (omega arith)
+-- Before the first place nothing is reset, after the last all.
+pub partly-none : (e : Record) (s : Station) → s ≡ partly e 0 s
+unfolding tally
+partly-none e s = same-station s refl (omega arith)
 
+module _ (e : Record) (s : Station) (sound : Sound s) where
   pub partly-all : partly e 64 s ≡ reset e s
   partly-all =
       let all : length (s .entries) ≤ 64 = omega (arith, sound .places) in
       same-station s
-      (rw (take-all 64 (s .entries) all, drop-of-length-le (s .entries) all) (append-nil (map (after e) (s .entries))))
+      (rw (take-all 64 (s .entries) all, drop-of-length-le (s .entries) all) (append-nil (map (leftOf e) (s .entries))))
       (rw (take-all 64 (s .entries) all))
 
   module _ (i : ℕ) (h : i < 64) where
@@ -89,17 +77,16 @@ module _ (e : Record) (s : Station) (sound : Sound s) where
     inside = omega (arith, sound .places)
 
     -- The units given back so far and this record's are in use.
-    enough : tally (back e) (take i (s .entries)) + getD (s .entries) i blank .units ≤ s .used
+    enough : tally (backOf e) (take i (s .entries)) + getD (s .entries) i blank .units ≤ s .used
     enough =
         let units : Entry → ℕ = λ r. r .units in
-        let le : (r : Entry) → back e r ≤ units r = λ r. by-cases (about e r) (λ t. rw t (omega arith)) (λ t. rw t (omega arith)) in
         omega (
           arith,
           sound .sum,
           ap (tally units) (take-append-drop (i + 1) (s .entries)),
           tally-append units (take (i + 1) (s .entries)) (drop (i + 1) (s .entries)),
           tally-next units (s .entries) i inside,
-          tally-le (back e) units (take i (s .entries)) le,
+          tally-le (backOf e) units (take i (s .entries)) (take i (s .entries)) refl (λ j _. back-le e (getD (take i (s .entries)) j blank)),
         )
 
     pub partly-puts : Puts i blank (partly e i s)
@@ -107,7 +94,7 @@ module _ (e : Record) (s : Station) (sound : Sound s) where
         record {
           place = h;
           places = simp (length-append, length-map, length-take, length-drop) (omega (arith, sound .places));
-          back = rw (changed-here (after e) (s .entries) i inside) (omega (arith, enough));
+          back = rw (changed-here (leftOf e) (s .entries) i inside) (omega (arith, enough));
           out = omega (arith, sound .capacity);
         }
 
@@ -116,19 +103,19 @@ module _ (e : Record) (s : Station) (sound : Sound s) where
     partly-next =
         let es = s .entries in
         let r = getD es i blank in
-        let joined : Entry → List Entry = λ x. map (after e) (take i es) ++ x ∷ drop (suc i) es in
+        let joined : Entry → List Entry = λ x. map (leftOf e) (take i es) ++ x ∷ drop (suc i) es in
         by-cases (about e r)
         (λ t.
-        let gone : after e r ≡ blank = rw t in
-        let given : back e r ≡ r .units = rw t in
-        rw (changed-here (after e) es i inside, t)
+        let gone : leftOf e r ≡ blank = rw t in
+        let given : backOf e r ≡ r .units = rw t in
+        rw (changed-here (leftOf e) es i inside, t)
         (same-station s
-        (changed-set (after e) es i inside blank ∙ sym (changed-next (after e) es i inside ∙ ap joined gone))
-        (omega (arith, given, tally-next (back e) es i inside, enough))))
+        (changed-set (leftOf e) es i inside blank ∙ sym (changed-next (leftOf e) es i inside ∙ ap joined gone))
+        (omega (arith, given, tally-next (backOf e) es i inside, enough))))
         (λ t.
-        let stays : after e r ≡ r = rw t in
-        let none : back e r ≡ 0 = rw t in
-        rw (changed-here (after e) es i inside, t)
+        let stays : leftOf e r ≡ r = rw t in
+        let none : backOf e r ≡ 0 = rw t in
+        rw (changed-here (leftOf e) es i inside, t)
         (same-station s
-        (ap (λ (l : List Entry). map (after e) (take i es) ++ l) (drop-cons es i blank inside) ∙ sym (changed-next (after e) es i inside ∙ ap joined stays))
-        (omega (arith, none, tally-next (back e) es i inside))))
+        (ap (λ (l : List Entry). map (leftOf e) (take i es) ++ l) (drop-cons es i blank inside) ∙ sym (changed-next (leftOf e) es i inside ∙ ap joined stays))
+        (omega (arith, none, tally-next (backOf e) es i inside))))

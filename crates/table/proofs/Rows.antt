@@ -1,12 +1,12 @@
 -- Each kind's row of "Which state takes which event": from which state, to which state or ending, which message with which fields.
-use Prim.Native.Nat.{ℕ, zero, suc, _+_, _<_}
+use Prim.Native.Nat.{ℕ, suc, _+_, _<_}
 use mathlib.Core.Path.{_≡_, refl, sym, ap, _∙_}
 use mathlib.Core.Bool.{Bool, true, false, cond, not, _&&_, _||_, false≢true}
-use mathlib.Core.List.{List, [], _∷_, map}
-use borrow.Author.Tests.{eqb-true, eqb-false, leb-true}
+use mathlib.Core.List.{List, [], _∷_}
+use borrow.Author.Tests.{eqb-true, leb-true, le-leb}
 use native.Mathlib.Omega.{arith}
 use lib.Dec.{leb, ltb, eqb}
-use lib.ListN.{getD, List·getD-map}
+use lib.ListN.{getD}
 use Rattle.laws.proofs.Tests.{by-cases, both-true}
 use Rattle.records.specs.declared.Record.{Record}
 use Rattle.table.specs.declared.Answer.{Answer}
@@ -15,15 +15,17 @@ use Rattle.table.specs.declared.Entry.{Entry}
 use Rattle.table.specs.declared.Found.{Found}
 use Rattle.table.specs.declared.Found.the-variants.{At, Nothing}
 use Rattle.table.specs.declared.Station.{Station}
-use Rattle.table.specs.Events.{key, newFits, about, message, silence, decision, refusal, listsFit, setFits, prepared, stored, serving, decide}
+use Rattle.table.specs.Events.{key, about, message, silence, decision, refusal, listsFit, setFits, prepared, stored, serving, decide}
 use Rattle.table.specs.Fields.{isKind, wellFormed}
 use Rattle.table.specs.Numbers.{isFree, blank}
 use Rattle.table.specs.Sound.{Sound}
-use Rattle.table.specs.Step.{answer, refused, carried, aboutOne, resetOf, startAt, tickAt, tickOf, requestOf, repeatOf, admittedAt, stepOf, issue, started, failure, heldFor, admission, taken, complete}
+use Rattle.table.specs.Step.{answer, refused, carried, aboutOne, isReset, resetOf, startAt, tickAt, tickOf, requestOf, repeatOf, admittedAt, stepOf, issue, started, failure, granted, admission, taken, complete}
 use Rattle.table.specs.Table.{find, soonest, at, add, reset}
-use Rattle.table.proofs.Finding.{found-at}
+use Rattle.table.proofs.Finding.{found-here}
 use Rattle.table.proofs.Forms.{kind-small}
+use Rattle.table.proofs.Keys.{keyed-means}
 use Rattle.table.proofs.Placing.{found-place}
+use Rattle.table.proofs.Tests.{below, below-at, same-at}
 
 -- ---- the rows
 
@@ -81,19 +83,19 @@ rows =
 
 -- 15, of a record that is due: preparing sends 6 with New absent, reason 2, and ends, 2; prepared sends 20 with both IDs and ends, 4;
 -- held ends, 6
+abbrev pub dueRow : Row
+dueRow = row 15 3 (ends 6)
+
 abbrev pub dueRows : List Row
 dueRows =
     row 15 1 (λ e r deadline. decision 0 2 (says 6 65535 2 r) blank)
     ∷ row 15 2 (λ e r deadline. decision 0 4 (says 20 (r .new .0) 0 r) blank)
-    ∷ row 15 3 (ends 6)
+    ∷ dueRow
     ∷ []
 
--- what is read beyond the last: a row of no kind, and the last row again
+-- what is read beyond the last: the last of these again, and of the others a row of no kind
 abbrev pub noRow : Row
 noRow = row 0 0 untaken
-
-abbrev pub dueRow : Row
-dueRow = row 15 3 (ends 6)
 
 -- ---- what is decided
 
@@ -131,10 +133,6 @@ inState state r =
       deadline = r .deadline;
     }
 
--- What agrees along a list and beyond it agrees at each place.
-pub same-at : {A B : Type 0} (f g : A → B) (xs : List A) (d : A) (n : ℕ) → map f xs ≡ map g xs → f d ≡ g d → f (getD xs n d) ≡ g (getD xs n d)
-same-at f g xs d n same beyond = rw (← List·getD-map f xs n d, ← List·getD-map g xs n d, same, beyond)
-
 module _ (e : Record) (r : Entry) (deadline : ℕ) where
   abbrev decided : Row → Decision
   decided x = decide (ofKind (x .kind) e) (inState (x .state) r) deadline
@@ -164,39 +162,51 @@ byKind k e bearers room s =
     cond (eqb k 1) (requestOf e bearers room s)
     (cond (eqb k 9) (startAt e (find isFree s) s)
     (cond (eqb k 15) (tickOf e s)
-    (cond (eqb k 7 || eqb k 14) (resetOf e s)
+    (cond (isReset k) (resetOf e s)
     (cond (eqb k 8) (answer 0 0 0 silence s)
     (aboutOne e (find (about e) s) s)))))
+
+-- What holds of 7 and 14 holds of a reset's kind.
+pub reset-kind : (P : ℕ → Type 0) (k : ℕ) → P 7 → P 14 → isReset k ≡ true → P k
+reset-kind P k seven fourteen t =
+    by-cases (eqb k 7) (λ u. rw (eqb-true k 7 u) seven) (λ u. rw (eqb-true k 14 (rw u at t)) fourteen)
 
 module _ (s : Station) (e : Record) (bearers : List ℕ) (room : ℕ) (formed : wellFormed e ≡ true) where
   -- A well-formed event takes the part of the step that its kind has.
   pub by-kind : (k : ℕ) → e .kind ≡ k → stepOf s e bearers room ≡ byKind k e bearers room s
   by-kind k kind = rw formed (ap (λ (n : ℕ). byKind n e bearers room s) kind)
 
+  -- An event of a row's kind is about one record.
+  about-step : (n : ℕ) → e .kind ≡ getD rows n noRow .kind → (found : Found) → find (about e) s ≡ found → stepOf s e bearers room ≡ aboutOne e found s
+  about-step n kind found is =
+      by-kind (getD rows n noRow .kind) kind
+      ∙ same-at (λ x. byKind (x .kind) e bearers room s) (λ x. aboutOne e (find (about e) s) s) rows noRow n refl refl
+      ∙ ap (λ (f : Found). aboutOne e f s) is
+
   -- An event of a row's kind about a record in the row's state does what the row says, with the deadline clock plus overall.
   pub row-step : (i n : ℕ) → e .kind ≡ getD rows n noRow .kind → find (about e) s ≡ At i → getD (s .entries) i blank .state ≡ getD rows n noRow .state
       → stepOf s e bearers room ≡ carried i (getD rows n noRow .does e (getD (s .entries) i blank) (s .clock + s .overall)) s
   row-step i n kind found state =
-      by-kind (getD rows n noRow .kind) kind
-      ∙ same-at (λ x. byKind (x .kind) e bearers room s) (λ x. aboutOne e (find (about e) s) s) rows noRow n refl refl
-      ∙ ap (λ (f : Found). aboutOne e f s) found
+      about-step n kind (At i) found
       ∙ ap (λ (d : Decision). carried i d s) (rows-hold e (getD (s .entries) i blank) (s .clock + s .overall) n kind state)
 
   -- One that is about no record is refused with 2.
   pub lost-step : (n : ℕ) → e .kind ≡ getD rows n noRow .kind → find (about e) s ≡ Nothing → stepOf s e bearers room ≡ refused 2 s
-  lost-step n kind found =
-      by-kind (getD rows n noRow .kind) kind
-      ∙ same-at (λ x. byKind (x .kind) e bearers room s) (λ x. aboutOne e (find (about e) s) s) rows noRow n refl refl
-      ∙ ap (λ (f : Found). aboutOne e f s) found
+  lost-step n kind found = about-step n kind Nothing found
+
+  -- 15, at a time before the clock: 8; else the clock becomes the time, and the soonest record is looked at.
+  pub early-step : e .kind ≡ 15 → ltb (e .time) (s .clock) ≡ true → stepOf s e bearers room ≡ refused 8 s
+  early-step kind early = by-kind 15 kind ∙ rw early
+
+  pub tick-step : e .kind ≡ 15 → ltb (e .time) (s .clock) ≡ false → (found : Found) → soonest e s ≡ found → stepOf s e bearers room ≡ tickAt e found (at (e .time) s)
+  tick-step kind late found is = by-kind 15 kind ∙ rw late (ap (λ (f : Found). tickAt e f (at (e .time) s)) is)
 
   -- A tick at a time not before the clock does to the soonest record what its row says, and the clock becomes the time.
   pub due-step : (i n : ℕ) → e .kind ≡ 15 → ltb (e .time) (s .clock) ≡ false → soonest e s ≡ At i → getD (s .entries) i blank .state ≡ getD dueRows n dueRow .state
       → stepOf s e bearers room ≡ carried i (getD dueRows n dueRow .does e (getD (s .entries) i blank) 0) (at (e .time) s)
   due-step i n kind late found state =
-      by-kind 15 kind
-      ∙ rw late
-      (ap (λ (f : Found). tickAt e f (at (e .time) s)) found
-      ∙ ap (λ (d : Decision). carried i d (at (e .time) s)) (due-rows-hold e (getD (s .entries) i blank) 0 n kind state))
+      tick-step kind late (At i) found
+      ∙ ap (λ (d : Decision). carried i d (at (e .time) s)) (due-rows-hold e (getD (s .entries) i blank) 0 n kind state)
 
   -- 9: where a place is free, a preparing record with the next own ID, which sends 1 with Old and the set.
   pub start-step : (i : ℕ) → e .kind ≡ 9 → find isFree s ≡ At i → stepOf s e bearers room ≡ answer 0 0 0 (message 1 (e .neighbour) (issue s) 0 (e .first) 0 0) (add i (issue s) (started e s) s)
@@ -205,6 +215,10 @@ module _ (s : Station) (e : Record) (bearers : List ℕ) (room : ℕ) (formed : 
   -- 9, where no place is free: 4.
   pub full-step : e .kind ≡ 9 → find isFree s ≡ Nothing → stepOf s e bearers room ≡ refused 4 s
   full-step kind found = by-kind 9 kind ∙ ap (λ (f : Found). startAt e f s) found
+
+  -- 7 and 14: a reset.
+  pub step-reset : isReset (e .kind) ≡ true → stepOf s e bearers room ≡ resetOf e s
+  step-reset kinds = rw formed (reset-kind (λ k. byKind k e bearers room s ≡ resetOf e s) (e .kind) refl refl kinds)
 
   -- 7: all outgoing and held records of the neighbour end, which sends 8 and has ending 10 even if there was none.
   pub reset-step : e .kind ≡ 7 → stepOf s e bearers room ≡ answer 0 10 0 (message 8 (e .neighbour) 0 0 0 0 0) (reset e s)
@@ -243,8 +257,7 @@ module _ (s : Station) (e : Record) (bearers : List ℕ) (room : ℕ) (formed : 
 
       -- 1, else: a held record with the next own ID, deadline clock plus guard, which sends 2 with both IDs and both sets.
       pub grant-step : (i : ℕ) → find (about e) s ≡ Nothing → find isFree s ≡ At i → eqb (admission (taken e bearers) s .admitted) 0 ≡ false
-          → stepOf s e bearers room
-          ≡ (let a = admission (taken e bearers) s in answer 0 0 (a .count) (message 2 (e .neighbour) (e .old .0) (issue s) (a .admitted) (a .refused) 0) (add i (issue s) (heldFor e a s) s))
+          → stepOf s e bearers room ≡ granted e (admission (taken e bearers) s) i s
       grant-step i new found some = new-step new (At i) found ∙ rw some
 
 -- ---- no row is missing
@@ -266,18 +279,6 @@ has-at k st (x ∷ xs) d t =
     let later = has-at k st xs d (rw u at t) in
     (suc (later .0), later .1, later .2))
 
--- whether a test holds of each number below a bound, and then of each
-abbrev below : ℕ → (ℕ → Bool) → Bool
-below zero test = true
-below (suc n) test = test n && below n test
-
-below-at : (n : ℕ) (test : ℕ → Bool) (i : ℕ) → below n test ≡ true → i < n → test i ≡ true
-below-at zero test i t h = absurd (omega arith)
-below-at (suc n) test i t h =
-    by-cases (eqb i n)
-    (λ u. rw (eqb-true i n u) (both-true (test n) (below n test) t .0))
-    (λ u. below-at n test i (both-true (test n) (below n test) t .1) (omega (arith, eqb-false i n u)))
-
 -- the kinds of events about one record, and whether an event of a kind looks at records in a state
 abbrev pub aboutRecord : ℕ → Bool
 aboutRecord k = isKind k && not (eqb k 1 || eqb k 7 || eqb k 8 || eqb k 9 || eqb k 14 || eqb k 15)
@@ -286,12 +287,10 @@ abbrev pub looks : ℕ → ℕ → Bool
 looks k st = leb (key k 0) st && leb st (key k 1)
 
 -- The state of a record that an event is about is one at which it looks.
-pub about-looks : (e : Record) (r : Entry) → about e r ≡ true → looks (e .kind) (r .state) ≡ true
+about-looks : (e : Record) (r : Entry) → about e r ≡ true → looks (e .kind) (r .state) ≡ true
 about-looks e r t =
-    let k = key (e .kind) in
-    let n : Bool = eqb (k 2) 0 || eqb (r .neighbour) (e .neighbour) in
-    let o : Bool = eqb (k 3) 0 || eqb (r .old .0) (e .old .0) in
-    both-true (looks (e .kind) (r .state)) n (both-true (looks (e .kind) (r .state) && n) o (both-true (looks (e .kind) (r .state) && n && o) (newFits (k 4) e r) t .0) .0) .0
+    let keys = keyed-means (key (e .kind)) e r t in
+    rw (le-leb (key (e .kind) 0) (r .state) (keys .first), le-leb (r .state) (key (e .kind) 1) (keys .last))
 
 -- Whatever record an event about one record is about, there is a row for it.
 pub row-of : (e : Record) (r : Entry) → aboutRecord (e .kind) ≡ true → e .kind < 18 → r .state < 5 → about e r ≡ true → (n : ℕ) × (e .kind ≡ getD rows n noRow .kind) × (r .state ≡ getD rows n noRow .state)
@@ -304,9 +303,7 @@ row-of e r kind small few t =
 pub some-row : (s : Station) → Sound s → (e : Record) → wellFormed e ≡ true → aboutRecord (e .kind) ≡ true → (i : ℕ) → find (about e) s ≡ At i
     → (n : ℕ) × (e .kind ≡ getD rows n noRow .kind) × (getD (s .entries) i blank .state ≡ getD rows n noRow .state)
 some-row s sound e formed kind i found =
-    let place = found-at (about e) (s .entries) 0 i blank found in
-    let here : place .0 ≡ i = omega (arith, place .1) in
-    row-of e (getD (s .entries) i blank) kind (kind-small e formed) (sound .fit i (found-place s sound (about e) i found) .state) (rw here at (place .3))
+    row-of e (getD (s .entries) i blank) kind (kind-small e formed) (sound .fit i (found-place s sound (about e) i found) .state) (found-here (about e) s i found .1)
 
 -- Whatever record a tick is about, there is a row for it.
 pub due-row-of : (e : Record) (r : Entry) → e .kind ≡ 15 → about e r ≡ true → (n : ℕ) × (r .state ≡ getD dueRows n dueRow .state)

@@ -4,7 +4,7 @@ use mathlib.Core.Path.{_≡_, refl, sym, _∙_}
 use mathlib.Core.Bool.{Bool, true, false, _&&_, true≢false}
 use mathlib.Core.Logic.{_⊎_, inl, inr}
 use mathlib.Core.List.{List}
-use mathlib.Core.Option.{none, some}
+use mathlib.Core.Option.{some, Option·none-ne-some}
 use borrow.Author.Tests.{eqb-true, eq-eqb, ne-eqb, leb-true}
 use native.Mathlib.Omega.{arith}
 use lib.Dec.{leb, eqb}
@@ -17,9 +17,10 @@ use Rattle.table.specs.declared.Station.{Station}
 use Rattle.table.specs.Numbers.{isFree, isOutgoing, blank, ownIs}
 use Rattle.table.specs.Sound.{Sound}
 use Rattle.table.specs.Views.{ids, last, NotOut, Preparing, Prepared, NotHeld, Held, outOf, heldOf, dueOf, named, out, held, due, sent, ending, to, IssuesNone, Ends, failed, moved, otherwise, Source, readies, keeps, Shrinks, Target, denies, arrives, holds}
-use Rattle.table.proofs.Tally.{tally-le-across}
+use Rattle.table.proofs.Counting.{own-equal}
+use Rattle.table.proofs.Tally.{tally-le}
 use Rattle.table.proofs.Turns.{Turned, Change, stays, stores, prepares, serves, ends, Final, incoming, by-failure, by-release, by-other, Says, other, refuses, releases, isOther}
-use Rattle.table.proofs.Viewing.{passes, count-own, own-equal, named-is, named-own, over}
+use Rattle.table.proofs.Viewing.{passes, count-own, named-is, named-own, over}
 
 -- ---- one record
 
@@ -55,9 +56,9 @@ module _ {e : Record} {z : ℕ} {x : Entry} where
   due-kept (prepares deadline _ two _ neighbour _) p d timer =
       by-cases (eqb (x .neighbour) p)
       (λ t. inr (two, sym neighbour ∙ eqb-true (x .neighbour) p t))
-      (λ t. let never : none ≡ some d = rw t at timer in let bad : _≡_ {A = ℕ} 0 1 = cc in absurd (omega arith))
-  due-kept (serves _) p d timer = let bad : _≡_ {A = ℕ} 0 1 = cc in absurd (omega arith)
-  due-kept (ends _ _) p d timer = let bad : _≡_ {A = ℕ} 0 1 = cc in absurd (omega arith)
+      (λ t. absurd (Option·none-ne-some d (rw t at timer)))
+  due-kept (serves _) p d timer = absurd (Option·none-ne-some d timer)
+  due-kept (ends _ _) p d timer = absurd (Option·none-ne-some d timer)
 
 -- ---- outgoing records
 
@@ -134,7 +135,7 @@ module _ (s : Station) (sound : Sound s) (e : Record) (a : Answer) (after : Soun
       record {
         latest = t .last;
         fewer = λ test.
-            let across = tally-le-across (passes test) (a .station .entries) (s .entries) blank (after .places ∙ sym (sound .places)) (λ j h. passes-kept (t .change j (omega (arith, after .places))) test) in
+            let across = tally-le (passes test) (passes test) (a .station .entries) (s .entries) (after .places ∙ sym (sound .places)) (λ j h. passes-kept (t .change j (omega (arith, after .places))) test) in
             omega (arith, count-own test (s .entries), count-own test (a .station .entries));
       }
 

@@ -1,32 +1,32 @@
 -- Every station that a fresh one reached is sound.
 use Prim.Native.Nat.{ℕ, _+_, _*_, _≤_, _<_}
 use mathlib.Core.Path.{_≡_, refl, sym}
-use mathlib.Core.Bool.{true, false, _&&_, _||_, true≢false}
+use mathlib.Core.Bool.{true, false, _&&_, true≢false}
 use mathlib.Core.List.{List}
 use borrow.Author.Tests.{eqb-true, leb-true}
 use native.Mathlib.Omega.{arith}
-use lib.Dec.{leb, ltb, eqb}
+use lib.Dec.{leb, eqb}
 use lib.ListN.{length, getD, length-replicate, getD-replicate}
 use Rattle.laws.proofs.Tests.{by-cases, both-true}
 use Rattle.records.specs.declared.Record.{Record}
 use Rattle.bearers.specs.Admission.{judgeable}
+use Rattle.table.specs.declared.Answer.{Answer}
 use Rattle.table.specs.declared.Entry.{Entry}
-use Rattle.table.specs.declared.Found.{Found}
 use Rattle.table.specs.declared.Found.the-variants.{At, Nothing}
 use Rattle.table.specs.declared.Station.{Station}
 use Rattle.table.specs.Events.{about, decide}
-use Rattle.table.specs.Fields.{wellFormed}
 use Rattle.table.specs.Numbers.{isFree, isHeld, own, blank}
 use Rattle.table.specs.Reached.{Reached, born, stepped}
 use Rattle.table.specs.Sound.{Fit, Sound, ownTimes, heldTimes}
-use Rattle.table.specs.Step.{issue, stepOf, bornOf, fresh, isTimer, settled, startAt, tickAt, tickOf, aboutOne, requestOf, repeatOf, admittedAt, started, heldFor, admission, complete, taken, freeUnits}
-use Rattle.table.specs.Table.{find, soonest, at, put, add, tally}
+use Rattle.table.specs.Step.{issue, stepOf, bornOf, fresh, isTimer, settled, started, heldFor, admission, taken, freeUnits}
+use Rattle.table.specs.Table.{find, at, put, add, tally}
 use Rattle.table.proofs.Changes.{sound-at, sound-put, sound-add, sound-reset}
 use Rattle.table.proofs.Counting.{issue-small, issue-unused, own-once}
 use Rattle.table.proofs.Deciding.{decide-units}
-use Rattle.table.proofs.Finding.{found-at, found-none}
+use Rattle.table.proofs.Finding.{found-here, found-none}
 use Rattle.table.proofs.Fits.{fit-blank, decided-fits, decided-own, decided-held, started-fits, held-fits}
 use Rattle.table.proofs.Forms.{time-within}
+use Rattle.table.proofs.Parts.{Part, as-refusal, as-response, as-failure, as-grant, as-start, as-reset, as-idle, as-tick, as-event, part}
 use Rattle.table.proofs.Placing.{found-place, due-place}
 use Rattle.table.proofs.Requests.{units-free}
 use Rattle.table.proofs.Tally.{tally-none, tally-replicate}
@@ -43,98 +43,64 @@ held-about e r one other =
     absurd (true≢false (rw (one, eqb-true (r .state) 3 (both .0), both .1, all .1) at other)))
     (λ t. rw t)
 
+-- A decision about a record leaves the station sound, if the deadline that an acknowledge sets is one.
+sound-decided : (s : Station) → Sound s → (e : Record) (i deadline : ℕ) → i < 64 → (e .kind ≡ 2 → 1 ≤ deadline) → deadline ≤ 1000000600000 → Sound (put i (decide e (getD (s .entries) i blank) deadline .entry) s)
+sound-decided s sound e i deadline place low high =
+    let r = getD (s .entries) i blank in
+    sound-put s sound i (decide e r deadline .entry) place (decided-fits e r deadline (sound .fit i place) low high)
+    (λ k. decided-own k e r deadline) (λ n o. decided-held n o e r deadline) (decide-units e r deadline)
+
 module _ (s : Station) (sound : Sound s) where
-  -- A decision about a record leaves the station sound, if the deadline that an acknowledge sets is one.
-  sound-decided : (e : Record) (i deadline : ℕ) → i < 64 → (e .kind ≡ 2 → 1 ≤ deadline) → deadline ≤ 1000000600000 → Sound (put i (decide e (getD (s .entries) i blank) deadline .entry) s)
-  sound-decided e i deadline place low high =
-      let r = getD (s .entries) i blank in
-      sound-put s sound i (decide e r deadline .entry) place (decided-fits e r deadline (sound .fit i place) low high)
-      (λ k. decided-own k e r deadline) (λ n o. decided-held n o e r deadline) (decide-units e r deadline)
-
-  -- So does an event about one record.
-  about-sound : (e : Record) (found : Found) → find (about e) s ≡ found → Sound (aboutOne e found s .station)
-  about-sound e Nothing _ = sound
-  about-sound e (At i) found =
-      sound-decided e i (s .clock + s .overall) (found-place s sound (about e) i found)
-      (λ _. omega (arith, sound .overall)) (omega (arith, sound .overall, sound .clock))
-
   -- A record that fits may be made at a free place, with the own ID that is issued.
   sound-made : (i : ℕ) (r : Entry) → find isFree s ≡ At i → Fit r → own r ≡ issue s
       → ((n o : ℕ) → tally (heldTimes n o) (s .entries) + heldTimes n o r ≤ 1)
       → s .used + r .units ≤ s .capacity → Sound (add i (issue s) r s)
   sound-made i r found fit issued held units =
-      let place = found-at isFree (s .entries) 0 i blank found in
-      let here : place .0 ≡ i = omega (arith, place .1) in
-      sound-add s sound i r (found-place s sound isFree i found) fit (issue s) (issue-small s sound) (rw here at (place .3))
+      sound-add s sound i r (found-place s sound isFree i found) fit (issue s) (issue-small s sound) (found-here isFree s i found .1)
       (λ k. own-once (s .entries) r k (sound .distinct k) (rw issued (issue-unused s sound i found))) held units
 
-  -- So a start leaves the station sound.
-  start-sound : (e : Record) (found : Found) → find isFree s ≡ found → Sound (startAt e found s .station)
-  start-sound e Nothing _ = sound
-  start-sound e (At i) found =
-      sound-made i (started e s) found (started-fits s sound e) refl (λ n o. omega (arith, sound .unique n o)) (omega (arith, sound .capacity))
+  -- Where a request is about no record, none is held for its neighbour and its Old ID but the one that it makes.
+  held-once : (e : Record) (bytes : List ℕ) → e .kind ≡ 1 → find (about e) s ≡ Nothing → (n o : ℕ) → tally (heldTimes n o) (s .entries) + heldTimes n o (heldFor e (admission bytes s) s) ≤ 1
+  held-once e bytes one none n o =
+      by-cases (eqb (e .neighbour) n && eqb (e .old .0) o)
+      (λ t.
+      let both = both-true (eqb (e .neighbour) n) (eqb (e .old .0) o) t in
+      let other = tally-none (heldTimes (e .neighbour) (e .old .0)) (about e) (s .entries) (λ r. held-about e r one) (found-none (about e) (s .entries) 0 none) in
+      rw (t, ← eqb-true (e .neighbour) n (both .0), ← eqb-true (e .old .0) o (both .1)) (omega arith))
+      (λ t. rw t (omega (arith, sound .unique n o)))
 
-  module _ (e : Record) (bytes : List ℕ) (room : ℕ) (one : e .kind ≡ 1) (judged : judgeable bytes room ≡ true) where
-    -- Where a request is about no record, none is held for its neighbour and its Old ID but the one that it makes.
-    held-once : find (about e) s ≡ Nothing → (n o : ℕ) → tally (heldTimes n o) (s .entries) + heldTimes n o (heldFor e (admission bytes s) s) ≤ 1
-    held-once none n o =
-        by-cases (eqb (e .neighbour) n && eqb (e .old .0) o)
-        (λ t.
-        let both = both-true (eqb (e .neighbour) n) (eqb (e .old .0) o) t in
-        let other = tally-none (heldTimes (e .neighbour) (e .old .0)) (about e) (s .entries) (λ r. held-about e r one) (found-none (about e) (s .entries) 0 none) in
-        rw (t, ← eqb-true (e .neighbour) n (both .0), ← eqb-true (e .old .0) o (both .1)) (omega arith))
-        (λ t. rw t (omega (arith, sound .unique n o)))
-
-    -- So a request leaves the station sound: what is admitted is free.
-    request-at : find (about e) s ≡ Nothing → (found : Found) → find isFree s ≡ found → Sound (admittedAt e bytes found s .station)
-    request-at none Nothing _ = sound
-    request-at none (At i) found =
-        let a = admission bytes s in
-        by-cases (eqb (a .admitted) 0) (λ t. rw t sound)
-        (λ t. rw t (sound-made i (heldFor e a s) found (held-fits s sound e a) refl (held-once none)
-        (omega (arith, sound .capacity, units-free bytes (freeUnits s) room judged))))
-
-    repeat-sound : (found : Found) → find (about e) s ≡ found → Sound (repeatOf e bytes found s .station)
-    repeat-sound (At i) _ = sound
-    repeat-sound Nothing none = request-at none (find isFree s) refl
-
-  request-sound : (e : Record) (bearers : List ℕ) (room : ℕ) → e .kind ≡ 1 → Sound (requestOf e bearers room s .station)
-  request-sound e bearers room one =
-      by-cases (complete e bearers room)
-      (λ t. rw t (repeat-sound e (taken e bearers) room one (both-true (leb (e .number * 32) (length bearers)) (judgeable (taken e bearers) room) t .1) (find (about e) s) refl))
-      (λ t. rw t sound)
-
--- A tick leaves the station sound: no acknowledge is among ticks, and the time is at most the greatest.
-tick-at : (s : Station) → Sound s → (e : Record) → e .kind ≡ 15 → (found : Found) → soonest e s ≡ found → Sound (tickAt e found s .station)
-tick-at s sound e fifteen Nothing _ = sound
-tick-at s sound e fifteen (At i) found = sound-decided s sound e i 0 (due-place s sound e i found) (λ two. absurd (omega arith)) (omega arith)
-
-tick-sound : (s : Station) → Sound s → (e : Record) → e .kind ≡ 15 → wellFormed e ≡ true → Sound (tickOf e s .station)
-tick-sound s sound e fifteen formed =
-    by-cases (ltb (e .time) (s .clock)) (λ t. rw t sound)
-    (λ t. rw t (tick-at (at (e .time) s) (sound-at s sound (e .time) time) e fifteen (soonest e s) refl))
-  where
-    time : e .time ≤ 1000000000000
-    time = time-within e formed
+  -- Every part of a step leaves the station sound: what is admitted is free, no acknowledge is among ticks, and their time is at most
+  -- the greatest.
+  module _ (e : Record) (bearers : List ℕ) (room : ℕ) where
+    sound-part : {a : Answer} → Part s e bearers room a → Sound (a .station)
+    sound-part (as-refusal n _ _) = sound
+    sound-part (as-response _) = sound
+    sound-part (as-failure n _ _ _) = sound
+    sound-part (as-grant i _ one whole new free) =
+        let a = admission (taken e bearers) s in
+        let judged = both-true (leb (e .number * 32) (length bearers)) (judgeable (taken e bearers) room) whole .1 in
+        sound-made i (heldFor e a s) free (held-fits s sound e a) refl (held-once e (taken e bearers) one new)
+        (omega (arith, sound .capacity, units-free (taken e bearers) (freeUnits s) room judged))
+    sound-part (as-start i _ _ free) =
+        sound-made i (started e s) free (started-fits s sound e) refl (λ n o. omega (arith, sound .unique n o)) (omega (arith, sound .capacity))
+    sound-part (as-reset _) = sound-reset s sound e
+    sound-part (as-idle formed _) = sound-at s sound (e .time) (time-within e formed)
+    sound-part (as-tick i formed fifteen found) =
+        sound-decided (at (e .time) s) (sound-at s sound (e .time) (time-within e formed)) e i 0 (due-place s sound e i found) (λ two. absurd (omega arith)) (omega arith)
+    sound-part (as-event i _ _ found) =
+        sound-decided s sound e i (s .clock + s .overall) (found-place s sound (about e) i found)
+        (λ _. omega (arith, sound .overall)) (omega (arith, sound .overall, sound .clock))
 
 -- A step leaves a sound station sound.
 pub sound-step : {s : Station} → Sound s → (e : Record) (bearers : List ℕ) (room : ℕ) → Sound (stepOf s e bearers room .station)
-sound-step {s} sound e bearers room =
-    by-cases (wellFormed e)
-    (λ w. by-cases (eqb (e .kind) 1)
-    (λ t. rw (w, t) (request-sound s sound e bearers room (eqb-true (e .kind) 1 t)))
-    (λ t. by-cases (eqb (e .kind) 9)
-    (λ u. rw (w, t, u) (start-sound s sound e (find isFree s) refl))
-    (λ u. by-cases (eqb (e .kind) 15)
-    (λ v. rw (w, t, u, v) (tick-sound s sound e (eqb-true (e .kind) 15 v) w))
-    (λ v. by-cases (eqb (e .kind) 7 || eqb (e .kind) 14)
-    (λ x. rw (w, t, u, v, x) (sound-reset s sound e))
-    (λ x. by-cases (eqb (e .kind) 8)
-    (λ y. rw (w, t, u, v, x, y) sound)
-    (λ y. rw (w, t, u, v, x, y) (about-sound s sound e (find (about e) s) refl)))))))
-    (λ w. rw w sound)
+sound-step {s} sound e bearers room = sound-part s sound e bearers room (part s e bearers room)
 
 -- ---- from birth on
+
+-- A station is born fresh, with the settings that it is given or with the least.
+pub born-as : (P : Station → Type 0) → ((capacity prep overall guard : ℕ) → P (fresh capacity prep overall guard)) → (capacity prep overall guard : ℕ) → P (bornOf capacity prep overall guard)
+born-as P each capacity prep overall guard =
+    by-cases (settled capacity prep overall guard) (λ t. rw t (each capacity prep overall guard)) (λ t. rw t (each 0 1 1 1))
 
 -- A fresh station with settings in range is sound.
 sound-fresh : (capacity prep overall guard : ℕ) → capacity ≤ 1000000000 → (1 ≤ prep) × (prep ≤ 600000) → (1 ≤ overall) × (overall ≤ 600000) → (1 ≤ guard) × (guard ≤ 600000) → Sound (fresh capacity prep overall guard)

@@ -1,9 +1,9 @@
 -- A message reaches the records of its sender alone.
-use Prim.Native.Nat.{ℕ, zero, suc, _≤_, _<_}
-use mathlib.Core.Path.{_≡_, refl, _∙_, sym}
+use Prim.Native.Nat.{ℕ, _≤_, _<_}
+use mathlib.Core.Path.{_≡_, refl, _∙_, sym, ap}
 use mathlib.Core.Bool.{Bool, true, false, not, _&&_, _||_, true≢false}
 use mathlib.Core.List.{List}
-use borrow.Author.Tests.{eqb-true, eqb-false, ne-eqb, le-leb, leb-true, not-true}
+use borrow.Author.Tests.{eqb-true, ne-eqb, le-leb, leb-true, not-true}
 use native.Mathlib.Omega.{arith}
 use lib.Dec.{leb, eqb}
 use lib.ListN.{length, getD}
@@ -11,33 +11,19 @@ use Rattle.laws.proofs.Tests.{by-cases, both-true}
 use Rattle.records.specs.declared.Record.{Record}
 use Rattle.table.specs.declared.Entry.{Entry}
 use Rattle.table.specs.declared.Found.{Found}
-use Rattle.table.specs.declared.Found.the-variants.{At, Nothing}
 use Rattle.table.specs.declared.Station.{Station}
 use Rattle.table.specs.Events.{about, key}
 use Rattle.table.specs.Fields.{wellFormed}
 use Rattle.table.specs.Numbers.{isFree, blank}
 use Rattle.table.specs.Step.{refused, aboutOne, stepOf}
 use Rattle.table.specs.Table.{find}
-use Rattle.table.proofs.Finding.{found-at}
+use Rattle.table.proofs.Finding.{by-found, found-here}
 use Rattle.table.proofs.Keys.{isOf, keyed-means}
+use Rattle.table.proofs.Tests.{below-at}
 
 -- the kinds that concern a neighbour: its messages 1 to 7, and the loss of it
 abbrev pub concernsNeighbour : ℕ → Bool
 concernsNeighbour k = leb 1 k && leb k 7 || eqb k 14
-
--- whether a test holds of each number below one
-abbrev pub below : (ℕ → Bool) → ℕ → Bool
-below test zero = true
-below test (suc n) = test n && below test n
-
--- Then it holds of any such number.
-pub below-at : (test : ℕ → Bool) (n k : ℕ) → below test n ≡ true → k < n → test k ≡ true
-below-at test zero k t h = absurd (omega arith)
-below-at test (suc n) k t h =
-    let both = both-true (test n) (below test n) t in
-    by-cases (eqb k n)
-    (λ u. rw (eqb-true k n u) (both .0))
-    (λ u. below-at test n k (both .1) (omega (arith, eqb-false k n u)))
 
 concerns-below : (k : ℕ) → concernsNeighbour k ≡ true → k < 15
 concerns-below k t =
@@ -47,7 +33,7 @@ concerns-below k t =
 
 -- By one test of the table of keys: for each of these kinds the neighbour is compared, and no free place is looked at.
 compared : (k : ℕ) → concernsNeighbour k ≡ true → not (eqb (key k 2) 0) && leb 1 (key k 0) ≡ true
-compared k t = rw t at (below-at (λ j. not (concernsNeighbour j) || not (eqb (key j 2) 0) && leb 1 (key j 0)) 15 k refl (concerns-below k t))
+compared k t = rw t at (below-at 15 (λ j. not (concernsNeighbour j) || not (eqb (key j 2) 0) && leb 1 (key j 0)) k refl (concerns-below k t))
 
 -- An event that concerns a neighbour is about that neighbour's records alone, and about no free place.
 pub about-of : (e : Record) (r : Entry) → concernsNeighbour (e .kind) ≡ true → about e r ≡ true → isOf (e .neighbour) r ≡ true
@@ -81,19 +67,17 @@ module _ (s : Station) (e : Record) (bearers : List ℕ) (room : ℕ) (formed : 
         ne-eqb (e .kind) 8 (λ t. omega arith),
       )
 
-  stranger-at :
-      ((i : ℕ) → i < length (s .entries) → getD (s .entries) i blank .neighbour ≡ e .neighbour → about e (getD (s .entries) i blank) ≡ true → ⊥)
-      → (found : Found) → find (about e) s ≡ found → aboutOne e found s ≡ refused 2 s
-  stranger-at none Nothing _ = refl
-  stranger-at none (At i) found =
-      let here = found-at (about e) (s .entries) 0 i blank found in
-      absurd (none (here .0) (here .2) (about-neighbour e (getD (s .entries) (here .0) blank) (answers-concern (e .kind) low high) (here .3)) (here .3))
-
   -- An acknowledge, failure, status, release or cancel that matches no record of its sender is refused with 2, and changes nothing.
   pub stranger-refused :
       ((i : ℕ) → i < length (s .entries) → getD (s .entries) i blank .neighbour ≡ e .neighbour → about e (getD (s .entries) i blank) ≡ true → ⊥)
       → stepOf s e bearers room ≡ refused 2 s
-  stranger-refused none = step-about ∙ stranger-at none (find (about e) s) refl
+  stranger-refused none =
+      step-about
+      ∙ by-found (find (about e) s)
+      (λ found. ap (λ (f : Found). aboutOne e f s) found)
+      (λ i found.
+      let here = found-here (about e) s i found in
+      absurd (none i (here .0) (about-neighbour e (getD (s .entries) i blank) (answers-concern (e .kind) low high) (here .1)) (here .1)))
 
   -- So is any such message of a neighbour that has no record here.
   pub unknown-refused :

@@ -7,8 +7,11 @@ use native.Mathlib.Omega.{arith}
 use lib.ListN.{length, getD, set, replicate}
 use Rattle.laws.proofs.Tests.{by-cases}
 use Rattle.table.specs.declared.Entry.{Entry}
-use Rattle.table.specs.Numbers.{anyOf}
-use Rattle.table.specs.Table.{tally}
+use Rattle.table.specs.declared.Found.the-variants.{At}
+use Rattle.table.specs.declared.Station.{Station}
+use Rattle.table.specs.Numbers.{blank, anyOf}
+use Rattle.table.specs.Table.{find, tally}
+use Rattle.table.proofs.Finding.{found-here}
 
 -- One record's number is at most the sum.
 pub tally-at : (f : Entry → ℕ) (rs : List Entry) (i : ℕ) (d : Entry) → i < length rs → f (getD rs i d) ≤ tally f rs
@@ -30,31 +33,18 @@ unfolding tally
 tally-map f g [] = refl
 tally-map f g (r ∷ rs) = ap (λ (n : ℕ). f (g r) + n) (tally-map f g rs)
 
--- Two numbers that agree for each record have the same sum.
-pub tally-equal : (f g : Entry → ℕ) (rs : List Entry) → ((r : Entry) → f r ≡ g r) → tally f rs ≡ tally g rs
-unfolding tally
-tally-equal f g [] same = refl
-tally-equal f g (r ∷ rs) same = omega (arith, same r, tally-equal f g rs same)
-
--- A number that is at most another for each record has at most its sum.
-pub tally-le : (f g : Entry → ℕ) (rs : List Entry) → ((r : Entry) → f r ≤ g r) → tally f rs ≤ tally g rs
-unfolding tally
-tally-le f g [] le = omega arith
-tally-le f g (r ∷ rs) le = omega (arith, le r, tally-le f g rs le)
-
--- The same, where the one is at most the other at each place.
-pub tally-le-at : (f g : Entry → ℕ) (rs : List Entry) (d : Entry) → ((i : ℕ) → i < length rs → f (getD rs i d) ≤ g (getD rs i d)) → tally f rs ≤ tally g rs
-unfolding tally
-tally-le-at f g [] d le = omega arith
-tally-le-at f g (r ∷ rs) d le = omega (arith, le 0 (omega arith), tally-le-at f g rs d (λ i h. le (suc i) (omega arith)))
-
 -- Where at each place one table has at most another's number, it has at most the other's sum.
-pub tally-le-across : (f : Entry → ℕ) (xs ys : List Entry) (d : Entry) → length xs ≡ length ys → ((i : ℕ) → i < length xs → f (getD xs i d) ≤ f (getD ys i d)) → tally f xs ≤ tally f ys
+pub tally-le : (f g : Entry → ℕ) (xs ys : List Entry) → length xs ≡ length ys → ((i : ℕ) → i < length xs → f (getD xs i blank) ≤ g (getD ys i blank)) → tally f xs ≤ tally g ys
 unfolding tally
-tally-le-across f [] ys d same le = omega arith
-tally-le-across f (x ∷ xs) [] d same le = absurd (omega arith)
-tally-le-across f (x ∷ xs) (y ∷ ys) d same le =
-    omega (arith, le 0 (omega arith), tally-le-across f xs ys d (omega arith) (λ i h. le (suc i) (omega arith)))
+tally-le f g [] ys same le = omega arith
+tally-le f g (x ∷ xs) [] same le = absurd (omega arith)
+tally-le f g (x ∷ xs) (y ∷ ys) same le =
+    omega (arith, le 0 (omega arith), tally-le f g xs ys (omega arith) (λ i h. le (suc i) (omega arith)))
+
+-- So two numbers that agree at each place have the same sum.
+pub tally-equal : (f g : Entry → ℕ) (rs : List Entry) → ((i : ℕ) → i < length rs → f (getD rs i blank) ≡ g (getD rs i blank)) → tally f rs ≡ tally g rs
+tally-equal f g rs same =
+    omega (arith, tally-le f g rs rs refl (λ i h. omega (arith, same i h)), tally-le g f rs rs refl (λ i h. omega (arith, same i h)))
 
 -- Two numbers for each record, added up, are the two sums.
 pub tally-add : (f g : Entry → ℕ) (rs : List Entry) → tally (λ r. f r + g r) rs ≡ tally f rs + tally g rs
@@ -102,3 +92,18 @@ tally-any test (r ∷ rs) some =
     by-cases (test r)
     (λ t. rw t (omega arith))
     (λ t. rw t (omega (arith, tally-any test rs (rw t at some))))
+
+-- So it does where it finds one.
+pub tally-found : (test : Entry → Bool) (s : Station) (k : ℕ) → find test s ≡ At k → 1 ≤ tally (λ r. cond (test r) 1 0) (s .entries)
+tally-found test s k found =
+    let here = found-here test s k found in
+    rw (here .1) at (tally-at (λ r. cond (test r) 1 0) (s .entries) k blank (here .0))
+
+-- Where it holds of no record, it fails at every place.
+pub none-at : (test : Entry → Bool) (rs : List Entry) (i : ℕ) → i < length rs → anyOf test rs ≡ false → test (getD rs i blank) ≡ false
+none-at test rs i h none =
+    by-cases (test (getD rs i blank))
+    (λ t.
+    let zero = tally-none (λ r. cond (test r) 1 0) test rs (λ r u. rw u) none in
+    absurd (omega (arith, rw t at (tally-at (λ r. cond (test r) 1 0) rs i blank h))))
+    (λ t. t)

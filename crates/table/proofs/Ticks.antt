@@ -11,19 +11,22 @@ use lib.ListN.{length, getD, set}
 use lib.Seq.{getD-set-same, getD-set-other}
 use Rattle.laws.proofs.Tests.{by-cases, both-true}
 use Rattle.records.specs.declared.Record.{Record}
+use Rattle.table.specs.declared.Answer.{Answer}
 use Rattle.table.specs.declared.Best.{Best}
 use Rattle.table.specs.declared.Entry.{Entry}
-use Rattle.table.specs.declared.Found.{Found}
 use Rattle.table.specs.declared.Found.the-variants.{At, Nothing}
 use Rattle.table.specs.declared.Station.{Station}
-use Rattle.table.specs.Events.{about, decide}
+use Rattle.table.specs.Events.{key, about}
 use Rattle.table.specs.Fields.{wellFormed}
 use Rattle.table.specs.Numbers.{isFree, blank, own, anyOf}
 use Rattle.table.specs.Sound.{Sound}
-use Rattle.table.specs.Step.{refused, carried, tickAt, stepOf}
-use Rattle.table.specs.Table.{sooner, dueFrom, soonest, at, put, tally}
-use Rattle.table.proofs.Rows.{by-kind, about-looks, due-ends}
-use Rattle.table.proofs.Tally.{tally-le, tally-set, tally-each, tally-none}
+use Rattle.table.specs.Step.{refused, stepOf}
+use Rattle.table.specs.Table.{dueBy, sooner, dueFrom, soonest, at, put, tally}
+use Rattle.table.proofs.Finding.{at-nothing, by-found}
+use Rattle.table.proofs.Keys.{keyed-means}
+use Rattle.table.proofs.Rows.{early-step, tick-step, due-ends}
+use Rattle.table.proofs.Tally.{tally-le, tally-set, tally-each, tally-none, once-le}
+use Rattle.table.proofs.Tests.{neither}
 
 -- ---- the order: by deadline, then by own ID
 
@@ -71,7 +74,7 @@ sooner-asym a b t =
 
 -- whether an event finds a record due, and one for each that it does
 abbrev pub due : Record → Entry → Bool
-due e r = about e r && leb (r .deadline) (e .time)
+due e r = dueBy (key (e .kind)) e r
 
 abbrev pub dueTimes : Record → Entry → ℕ
 dueTimes e r = cond (due e r) 1 0
@@ -85,6 +88,12 @@ record Ended (e : Record) (best : Best) (i k : ℕ) (rs : List Entry) : Type 0 w
   first : (j : ℕ) → j < length rs → due e (getD rs j blank) ≡ true → sooner (getD rs j blank) entry ≡ false
 
 module _ (e : Record) (busy : (r : Entry) → due e r ≡ true → isFree r ≡ false) where
+  -- What holds of the first record and of those after it holds of all.
+  each : (r : Entry) (rs : List Entry) (entry : Entry) → (due e r ≡ true → sooner r entry ≡ false) → ((j : ℕ) → j < length rs → due e (getD rs j blank) ≡ true → sooner (getD rs j blank) entry ≡ false)
+      → (j : ℕ) → j < suc (length rs) → due e (getD (r ∷ rs) j blank) ≡ true → sooner (getD (r ∷ rs) j blank) entry ≡ false
+  each r rs entry here on zero h u = here u
+  each r rs entry here on (suc j) h u = on j (omega arith) u
+
   -- One step of the walk, where the record is the best so far, and where it is not.
   taken : (r : Entry) (rs : List Entry) (best : Best) (i k : ℕ) → due e r ≡ true → (isFree (best .entry) || sooner r (best .entry)) ≡ true → Ended e (record { place = i; entry = r }) (i + 1) k rs → Ended e best i k (r ∷ rs)
   taken r rs best i k d t end =
@@ -96,12 +105,8 @@ module _ (e : Record) (busy : (r : Entry) → due e r ≡ true → isFree r ≡ 
             (λ on. inr (suc (on .0), omega (arith, on .1), omega (arith, on .2), on .3, on .4))
             (end .stands);
         past = λ f. not-sooner-trans (best .entry) r (end .entry) (sooner-asym r (best .entry) (rw f at t)) (end .past (busy r d));
-        first = first;
+        first = each r rs (end .entry) (λ _. end .past (busy r d)) (end .first);
       }
-    where
-      first : (j : ℕ) → j < suc (length rs) → due e (getD (r ∷ rs) j blank) ≡ true → sooner (getD (r ∷ rs) j blank) (end .entry) ≡ false
-      first zero h u = end .past (busy r d)
-      first (suc j) h u = end .first j (omega arith) u
 
   passed : (r : Entry) (rs : List Entry) (best : Best) (i k : ℕ) → (due e r && (isFree (best .entry) || sooner r (best .entry))) ≡ false → Ended e best (i + 1) k rs → Ended e best i k (r ∷ rs)
   passed r rs best i k t end =
@@ -113,21 +118,18 @@ module _ (e : Record) (busy : (r : Entry) → due e r ≡ true → isFree r ≡ 
             (λ on. inr (suc (on .0), omega (arith, on .1), omega (arith, on .2), on .3, on .4))
             (end .stands);
         past = end .past;
-        first = first;
+        first = each r rs (end .entry)
+            (λ u.
+            let left = neither (isFree (best .entry)) (sooner r (best .entry)) (rw u at t) in
+            not-sooner-trans r (best .entry) (end .entry) (left .1) (end .past (left .0)))
+            (end .first);
       }
-    where
-      first : (j : ℕ) → j < suc (length rs) → due e (getD (r ∷ rs) j blank) ≡ true → sooner (getD (r ∷ rs) j blank) (end .entry) ≡ false
-      first zero h u =
-          let left : (isFree (best .entry) || sooner r (best .entry)) ≡ false = rw u at t in
-          by-cases (isFree (best .entry)) (λ f. absurd (true≢false (rw f at left)))
-          (λ f. not-sooner-trans r (best .entry) (end .entry) (rw f at left) (end .past f))
-      first (suc j) h u = end .first j (omega arith) u
 
   walked : (rs : List Entry) (best : Best) (i k : ℕ) → dueFrom e best i rs ≡ At k → Ended e best i k rs
   unfolding dueFrom
   walked [] best i k found =
       by-cases (isFree (best .entry))
-      (λ t. let none : Nothing ≡ At k = rw t at found in let z : _≡_ {A = ℕ} 0 1 = cc in absurd (omega arith))
+      (λ t. absurd (at-nothing k (sym (rw t at found))))
       (λ t.
       let here : At (best .place) ≡ At k = rw t at found in
       record {
@@ -148,7 +150,7 @@ module _ (e : Record) (busy : (r : Entry) → due e r ≡ true → isFree r ≡ 
   unfolding dueFrom anyOf
   missed [] best i found =
       by-cases (isFree (best .entry)) (λ t. (t, refl))
-      (λ t. let here : At (best .place) ≡ Nothing = rw t at found in let z : _≡_ {A = ℕ} 0 1 = cc in absurd (omega arith))
+      (λ t. absurd (at-nothing (best .place) (rw t at found)))
   missed (r ∷ rs) best i found =
       by-cases (due e r && (isFree (best .entry) || sooner r (best .entry)))
       (λ t.
@@ -172,9 +174,9 @@ ticks (suc n) e s = ticks n e (stepOf s e [] 0 .station)
 module _ (e : Record) (kind : e .kind ≡ 15) where
   busy-due : (r : Entry) → due e r ≡ true → isFree r ≡ false
   busy-due r t =
-      let seen = about-looks e r (both-true (about e r) (leb (r .deadline) (e .time)) t .0) in
-      let some : leb 1 (r .state) ≡ true = both-true (leb 1 (r .state)) (leb (r .state) 3) (rw kind at seen) .0 in
-      ne-eqb (r .state) 0 (λ z. omega (arith, leb-true 1 (r .state) some))
+      let keys = keyed-means (key (e .kind)) e r (both-true (about e r) (leb (r .deadline) (e .time)) t .0) in
+      let some : 1 ≤ r .state = rw kind at (keys .first) in
+      ne-eqb (r .state) 0 (λ z. omega arith)
 
   none-due : due e blank ≡ false
   none-due = by-cases (due e blank) (λ t. absurd (true≢false (busy-due blank t))) (λ t. t)
@@ -209,7 +211,7 @@ module _ (e : Record) (kind : e .kind ≡ 15) where
       tick-one i found =
           let r = getD (s .entries) i blank in
           let ended = due-ends e r 0 kind (soonest-due s i found .1) in
-          let does : stepOf s e bearers room ≡ carried i (decide e r 0) (at (e .time) s) = by-kind s e bearers room formed 15 kind ∙ rw late (ap (λ (f : Found). tickAt e f (at (e .time) s)) found) in
+          let does = tick-step s e bearers room formed kind late (At i) found in
           (rw does (ended .0), rw does (ap (λ (x : Entry). put i x (at (e .time) s)) (ended .1)))
 
       -- Its place is free then, and no other record changes.
@@ -221,60 +223,57 @@ module _ (e : Record) (kind : e .kind ≡ 15) where
 
       -- One that finds none has reply 9, and only the clock changes.
       pub tick-none : soonest e s ≡ Nothing → stepOf s e bearers room ≡ refused 9 (at (e .time) s)
-      tick-none found = by-kind s e bearers room formed 15 kind ∙ rw late (ap (λ (f : Found). tickAt e f (at (e .time) s)) found)
+      tick-none = tick-step s e bearers room formed kind late Nothing
 
       -- So a tick leaves the clock at its time, and one due record fewer, if there was one; if there was none, it has reply 9.
-      tick-fewer : (found : Found) → soonest e s ≡ found → (stepOf s e bearers room .station .clock ≡ e .time)
+      tick-fewer : (stepOf s e bearers room .station .clock ≡ e .time)
           × (((stepOf s e bearers room .outcome .reply ≡ 0) × (dues e (stepOf s e bearers room .station) + 1 ≡ dues e s)) ⊎ ((stepOf s e bearers room .outcome .reply ≡ 9) × (dues e s ≡ 0) × (dues e (stepOf s e bearers room .station) ≡ 0)))
-      tick-fewer Nothing found =
+      tick-fewer =
+          by-found (soonest e s)
+          (λ found.
           let none = tally-none (dueTimes e) (due e) (s .entries) (λ r t. rw t) (soonest-none s found) in
-          rw (tick-none found) (refl, inr (refl, none, none))
-      tick-fewer (At i) found =
+          rw (tick-none found) (refl, inr (refl, none, none)))
+          (λ i found.
           let d = soonest-due s i found in
           let one = tick-one i found in
           let counted : dueTimes e (getD (s .entries) i blank) ≡ 1 = rw (d .1, le-leb (getD (s .entries) i blank .deadline) (e .time) (d .2)) in
           let freed : dueTimes e blank ≡ 0 = rw none-due in
           let fewer : tally (dueTimes e) (set (s .entries) i blank) + 1 ≡ dues e s = omega (arith, tally-set (dueTimes e) (s .entries) i blank blank (d .0)) in
-          (rw (one .1), inl (one .0, rw (one .1) fewer))
+          (rw (one .1), inl (one .0, rw (one .1) fewer)))
 
-    -- A tick with reply 0 is at a time not before the clock, and finds a record.
+    -- A tick with another reply than 8 is at a time not before the clock.
+    in-time : (s : Station) (bearers : List ℕ) (room : ℕ) → (stepOf s e bearers room .outcome .reply ≡ 8 → ⊥) → ltb (e .time) (s .clock) ≡ false
+    in-time s bearers room other =
+        by-cases (ltb (e .time) (s .clock))
+        (λ t. absurd (other (ap (λ (a : Answer). a .outcome .reply) (early-step s e bearers room formed kind t))))
+        (λ t. t)
+
+    -- One with reply 0 finds a record besides.
     pub tick-handles : (s : Station) (bearers : List ℕ) (room : ℕ) → stepOf s e bearers room .outcome .reply ≡ 0 → (ltb (e .time) (s .clock) ≡ false) × (i : ℕ) × (soonest e s ≡ At i)
     tick-handles s bearers room done =
-        by-cases (ltb (e .time) (s .clock))
-        (λ t.
-        let early : stepOf s e bearers room ≡ refused 8 s = by-kind s e bearers room formed 15 kind ∙ rw t in
-        let eight : _≡_ {A = ℕ} 8 0 = rw early at done in
-        absurd (omega arith))
-        (λ t. handled t (soonest e s) refl)
-      where
-        handled : ltb (e .time) (s .clock) ≡ false → (found : Found) → soonest e s ≡ found → (ltb (e .time) (s .clock) ≡ false) × (i : ℕ) × (soonest e s ≡ At i)
-        handled late (At i) found = (late, i, found)
-        handled late Nothing found =
-            let nine : _≡_ {A = ℕ} 9 0 = rw (tick-none s bearers room late found) at done in
-            absurd (omega arith)
+        let late = in-time s bearers room (λ eight. eqb-false 0 8 refl (sym done ∙ eight)) in
+        by-found (soonest e s)
+        (λ none. absurd (eqb-false 9 0 refl (sym (ap (λ (a : Answer). a .outcome .reply) (tick-none s bearers room late none)) ∙ done)))
+        (λ i found. (late, i, found))
 
-    -- A tick with reply 9 finds none due.
+    -- One with reply 9 finds none due.
     pub tick-nine : (s : Station) (bearers : List ℕ) (room : ℕ) → stepOf s e bearers room .outcome .reply ≡ 9 → dues e s ≡ 0
     tick-nine s bearers room nine =
-        by-cases (ltb (e .time) (s .clock))
-        (λ t.
-        let early : stepOf s e bearers room ≡ refused 8 s = by-kind s e bearers room formed 15 kind ∙ rw t in
-        let eight : _≡_ {A = ℕ} 8 9 = rw early at nine in
-        absurd (omega arith))
-        (λ t. ⊎-elim (λ one. absurd (omega (arith, one .0))) (λ none. none .1) (tick-fewer s bearers room t (soonest e s) refl .1))
+        let late = in-time s bearers room (λ eight. eqb-false 9 8 refl (sym nine ∙ eight)) in
+        ⊎-elim (λ one. absurd (eqb-false 0 9 refl (sym (one .0) ∙ nine))) (λ none. none .1) (tick-fewer s bearers room late .1)
 
     -- Where no record is due, a tick has reply 9.
     pub tick-ends : (s : Station) (bearers : List ℕ) (room : ℕ) → ltb (e .time) (s .clock) ≡ false → dues e s ≡ 0 → stepOf s e bearers room .outcome .reply ≡ 9
     tick-ends s bearers room late none =
         ⊎-elim (λ one. absurd (omega (arith, one .1))) (λ nine. nine .0)
-        (tick-fewer s bearers room late (soonest e s) refl .1)
+        (tick-fewer s bearers room late .1)
 
     -- Repeated at the same time as often as records are due, or oftener, it leaves none due, and the next tick has reply 9.
     pub ticks-end : (n : ℕ) (s : Station) → ltb (e .time) (s .clock) ≡ false → dues e s ≤ n → (dues e (ticks n e s) ≡ 0) × (stepOf (ticks n e s) e [] 0 .outcome .reply ≡ 9)
     unfolding ticks
     ticks-end zero s late few = let none : dues e s ≡ 0 = omega arith in (none, tick-ends s [] 0 late none)
     ticks-end (suc n) s late few =
-        let step = tick-fewer s [] 0 late (soonest e s) refl in
+        let step = tick-fewer s [] 0 late in
         ticks-end n (stepOf s e [] 0 .station) (rw (step .0) (le-ltb (e .time) (e .time) (omega arith)))
         (⊎-elim (λ one. omega (arith, one .1)) (λ none. omega (arith, none .2)) (step .1))
 
@@ -284,10 +283,10 @@ module _ (e : Record) (kind : e .kind ≡ 15) where
     ticks-left zero s late some = (
       omega arith,
       ⊎-elim (λ one. one .0) (λ none. absurd (omega (arith, none .1)))
-          (tick-fewer s [] 0 late (soonest e s) refl .1),
+          (tick-fewer s [] 0 late .1),
     )
     ticks-left (suc n) s late some =
-        let step = tick-fewer s [] 0 late (soonest e s) refl in
+        let step = tick-fewer s [] 0 late in
         let one = ⊎-elim (λ one. one .1) (λ none. absurd (omega (arith, none .1))) (step .1) in
         let on = ticks-left n (stepOf s e [] 0 .station) (rw (step .0) (le-ltb (e .time) (e .time) (omega arith))) (omega (arith, one)) in
         (omega (arith, on .0, one), on .1)
@@ -295,7 +294,7 @@ module _ (e : Record) (kind : e .kind ≡ 15) where
     -- So it has reply 9 after at most 64 steps, and then none is due.
     pub ticks-64 : (s : Station) → Sound s → ltb (e .time) (s .clock) ≡ false → (dues e s ≤ 64) × (dues e (ticks 64 e s) ≡ 0) × (stepOf (ticks 64 e s) e [] 0 .outcome .reply ≡ 9)
     ticks-64 s sound late =
-        let few = tally-le (dueTimes e) (λ r. 1) (s .entries) (λ r. by-cases (due e r) (λ t. rw t (omega arith)) (λ t. rw t (omega arith))) in
+        let few = tally-le (dueTimes e) (λ r. 1) (s .entries) (s .entries) refl (λ i _. once-le (due e (getD (s .entries) i blank)) true (λ _. refl)) in
         let most : dues e s ≤ 64 = omega (arith, few, tally-each 1 (s .entries), sound .places) in
         let end = ticks-end 64 s late most in
         (most, end .0, end .1)

@@ -2,36 +2,35 @@
 use Prim.Native.Nat.{ℕ, _+_, _<_}
 use mathlib.Core.Path.{_≡_, refl, subst}
 use mathlib.Core.Bool.{Bool, true, false, not, _&&_, _||_, false≢true}
-use mathlib.Core.List.{List, []}
+use mathlib.Core.List.{List}
 use borrow.Author.Tests.{eqb-true, eqb-false, not-true}
 use native.Mathlib.Omega.{arith}
-use lib.Dec.{leb, ltb, eqb}
+use lib.Dec.{leb, eqb}
 use lib.ListN.{getD}
-use lib.Seq.{getD-set-same, getD-set-other}
 use Rattle.laws.proofs.Tests.{by-cases, both-true}
 use Rattle.records.specs.declared.Record.{Record}
 use Rattle.bearers.specs.declared.Admission.{Admission}
 use Rattle.table.specs.declared.Answer.{Answer}
 use Rattle.table.specs.declared.Decision.{Decision}
 use Rattle.table.specs.declared.Entry.{Entry}
-use Rattle.table.specs.declared.Found.{Found}
-use Rattle.table.specs.declared.Found.the-variants.{At, Nothing}
+use Rattle.table.specs.declared.Found.the-variants.{At}
 use Rattle.table.specs.declared.Station.{Station}
 use Rattle.table.specs.Events.{key, keyed, about, actions, actionOf, message, lastWord, decide, prepared, stored, serving}
 use Rattle.table.specs.Fields.{wellFormed}
 use Rattle.table.specs.Numbers.{isFree, isOutgoing, blank}
 use Rattle.table.specs.Sound.{Sound}
-use Rattle.table.specs.Step.{answer, refused, carried, aboutOne, resetOf, issue, started, startAt, tickAt, tickOf, taken, complete, admission, heldFor, failure, admittedAt, repeatOf, requestOf, stepOf}
-use Rattle.table.specs.Table.{find, soonest, at, add}
+use Rattle.table.specs.Step.{refused, carried, isReset, resetOf, startAt, taken, admission, granted, stepOf}
+use Rattle.table.specs.Table.{find, at}
 use Rattle.table.specs.Views.{sent, ending, isOtherEnding}
 use Rattle.table.proofs.Changes.{sound-at}
-use Rattle.table.proofs.Deciding.{every, every-at, leaves, decide-as}
-use Rattle.table.proofs.Finding.{found-at}
+use Rattle.table.proofs.Deciding.{every-action, leaves, decide-as}
+use Rattle.table.proofs.Finding.{found-here, set-each}
 use Rattle.table.proofs.Forms.{time-within}
 use Rattle.table.proofs.Keys.{Keyed, keyed-means}
-use Rattle.table.proofs.Neighbours.{reset-kind}
+use Rattle.table.proofs.Parts.{Part, as-refusal, as-response, as-failure, as-grant, as-start, as-reset, as-idle, as-tick, as-event, part}
 use Rattle.table.proofs.Placing.{found-place, due-place}
 use Rattle.table.proofs.Resetting.{reset-at}
+use Rattle.table.proofs.Rows.{reset-kind}
 use Rattle.table.proofs.Ticks.{soonest-due}
 
 -- ---- what becomes of one record
@@ -74,10 +73,8 @@ pub record Turned (s : Station) (e : Record) (a : Answer) : Type 0 where
 
 -- a start or a request makes one, or none is made
 pub data Turn (s : Station) (e : Record) : Answer → Type 0 where
-  starts : (k : ℕ) → find isFree s ≡ At k → wellFormed e ≡ true → e .kind ≡ 9
-      → Turn s e (answer 0 0 0 (message 1 (e .neighbour) (issue s) 0 (e .first) 0 0) (add k (issue s) (started e s) s))
-  admits : (k : ℕ) → find isFree s ≡ At k → wellFormed e ≡ true → e .kind ≡ 1 → (a : Admission)
-      → Turn s e (answer 0 0 (a .count) (message 2 (e .neighbour) (e .old .0) (issue s) (a .admitted) (a .refused) 0) (add k (issue s) (heldFor e a s) s))
+  starts : (k : ℕ) → find isFree s ≡ At k → wellFormed e ≡ true → e .kind ≡ 9 → Turn s e (startAt e (At k) s)
+  admits : (k : ℕ) → find isFree s ≡ At k → wellFormed e ≡ true → e .kind ≡ 1 → (a : Admission) → Turn s e (granted e a k s)
   turns : {a : Answer} → Turned s e a → Turn s e a
 
 -- ---- a decision
@@ -92,7 +89,7 @@ abbrev final : ℕ → ℕ → ℕ → Bool
 final k st z = leaves z || not (eqb k 2) && (not (leb 1 st && leb st 2) || eqb z 1 && eqb k 3 || eqb z 3 && eqb k 5 && eqb st 2 || isOtherEnding z)
 
 finals : (k st : ℕ) → final k st (actionOf k st) ≡ true
-finals k st = every-at (final k) (getD actions k []) 0 st (every-at (λ i row. every (final i) row) actions [] k refl (λ j. refl)) (λ j. refl)
+finals k st = every-action final refl k st (λ j. refl)
 
 module _ (e : Record) (r : Entry) (mine : about e r ≡ true) where
   -- What is compared is the same.
@@ -139,16 +136,31 @@ last-other e r =
     (λ t. by-cases (eqb (e .kind) 15 && eqb (r .state) 1) (λ u. rw (t, u))
     (λ u. by-cases (eqb (e .kind) 15 && eqb (r .state) 2) (λ v. rw (t, u, v)) (λ v. rw (t, u, v))))
 
+module _ (s : Station) (e : Record) where
+  -- A refusal leaves all records as they were.
+  refused-turned : (n : ℕ) → Turned s e (refused n s)
+  refused-turned n = record { last = refl; change = λ j h. stays; says = other refl }
+
+  -- A reset ends every record that it is about.
+  reset-turned : isReset (e .kind) ≡ true → Turned s e (resetOf e s)
+  reset-turned kinds =
+      record {
+        last = refl;
+        change = λ j h.
+            rw (reset-at e s j)
+            (by-cases (about e (getD (s .entries) j blank))
+            (λ t. rw t (ends (reset-kind (λ k. k ≡ 2 → ⊥) (e .kind) (λ z. omega arith) (λ z. omega arith) kinds) (by-other refl)))
+            (λ t. rw t stays));
+        says = other (by-cases (eqb (e .kind) 7) (λ t. rw t) (λ t. rw t));
+      }
+
 module _ (s : Station) (sound : Sound s) (e : Record) where
   -- A decision about one record changes that one.
   put-turned : (i : ℕ) → i < 64 → (d : Decision) → Change e (d .ending) (getD (s .entries) i blank) (d .entry) → Says (s .entries) e (d .reply) (d .message) → Turned s e (carried i d s)
   put-turned i place d change says =
       record {
         last = refl;
-        change = λ j h.
-            by-cases (eqb j i)
-            (λ t. rw (eqb-true j i t, getD-set-same (s .entries) i (d .entry) blank (omega (arith, sound .places))) change)
-            (λ t. rw (getD-set-other (s .entries) i j (d .entry) blank (eqb-false j i t)) stays);
+        change = set-each (λ j x. j < 64 → Change e (d .ending) (getD (s .entries) j blank) x) (s .entries) i (d .entry) (omega (arith, sound .places)) (λ _. change) (λ j _ _. stays);
         says = says;
       }
 
@@ -165,80 +177,22 @@ module _ (s : Station) (sound : Sound s) (e : Record) where
       (λ eleven three. put-turned i place _ (serves three) (releases i place eleven three (same-new e r mine 11 eleven refl refl refl) refl refl))
       (λ none. put-turned i place _ (ended e r mine (actionOf (e .kind) (r .state)) (finals (e .kind) (r .state)) none) (other (last-other e r)))
 
-  -- A refusal leaves all records as they were.
-  refused-turned : (n : ℕ) → Turned s e (refused n s)
-  refused-turned n = record { last = refl; change = λ j h. stays; says = other refl }
+module _ (s : Station) (sound : Sound s) (e : Record) (bearers : List ℕ) (room : ℕ) where
+  turn-of : {a : Answer} → Part s e bearers room a → Turn s e a
+  turn-of (as-refusal n _ _) = turns (refused-turned s e n)
+  turn-of (as-response _) = turns (refused-turned s e 0)
+  turn-of (as-failure n _ _ one) = turns (record { last = refl; change = λ j h. stays; says = refuses n one refl })
+  turn-of (as-grant k formed one _ _ free) = admits k free formed one (admission (taken e bearers) s)
+  turn-of (as-start k formed nine free) = starts k free formed nine
+  turn-of (as-reset kinds) = turns (reset-turned s e kinds)
+  turn-of (as-idle _ _) = turns (record { last = refl; change = λ j h. stays; says = other refl })
+  turn-of (as-tick i formed fifteen found) =
+      -- the clock is no matter here
+      let t = decided-turned (at (e .time) s) (sound-at s sound (e .time) (time-within e formed)) e formed i 0 (due-place s sound e i found) (soonest-due e fifteen s i found .1) in
+      turns (record { last = t .last; change = t .change; says = t .says })
+  turn-of (as-event i formed _ found) =
+      turns (decided-turned s sound e formed i (s .clock + s .overall) (found-place s sound (about e) i found) (found-here (about e) s i found .1))
 
-  about-turned : wellFormed e ≡ true → (found : Found) → find (about e) s ≡ found → Turned s e (aboutOne e found s)
-  about-turned formed Nothing _ = refused-turned 2
-  about-turned formed (At i) found =
-      let here = found-at (about e) (s .entries) 0 i blank found in
-      let place : here .0 ≡ i = omega (arith, here .1) in
-      decided-turned formed i (s .clock + s .overall) (found-place s sound (about e) i found) (rw place at (here .3))
-
-  -- A reset ends every record that it is about.
-  reset-turned : (eqb (e .kind) 7 || eqb (e .kind) 14) ≡ true → Turned s e (resetOf e s)
-  reset-turned kinds =
-      record {
-        last = refl;
-        change = λ j h.
-            rw (reset-at e s j)
-            (by-cases (about e (getD (s .entries) j blank))
-            (λ t. rw t (ends (reset-kind (λ k. k ≡ 2 → ⊥) (e .kind) (λ z. omega arith) (λ z. omega arith) kinds) (by-other refl)))
-            (λ t. rw t stays));
-        says = other (by-cases (eqb (e .kind) 7) (λ t. rw t) (λ t. rw t));
-      }
-
-  -- A start makes a record, if a place is free.
-  start-turn : wellFormed e ≡ true → e .kind ≡ 9 → (found : Found) → find isFree s ≡ found → Turn s e (startAt e found s)
-  start-turn formed nine Nothing _ = turns (refused-turned 4)
-  start-turn formed nine (At k) found = starts k found formed nine
-
-  -- So does a request, if besides it is whole and no repeat, and some bearer is admitted.
-  module _ (formed : wellFormed e ≡ true) (one : e .kind ≡ 1) where
-    failed-turn : (n : ℕ) → Turn s e (failure n e s)
-    failed-turn n = turns (record { last = refl; change = λ j h. stays; says = refuses n one refl })
-
-    admitted-turn : (bytes : List ℕ) (found : Found) → find isFree s ≡ found → Turn s e (admittedAt e bytes found s)
-    admitted-turn bytes Nothing _ = failed-turn 4
-    admitted-turn bytes (At k) found =
-        by-cases (eqb (admission bytes s .admitted) 0) (λ t. rw t (failed-turn 5)) (λ t. rw t (admits k found formed one (admission bytes s)))
-
-    repeat-turn : (bytes : List ℕ) (found : Found) → Turn s e (repeatOf e bytes found s)
-    repeat-turn bytes (At i) = turns (refused-turned 3)
-    repeat-turn bytes Nothing = admitted-turn bytes (find isFree s) refl
-
-    request-turn : (bearers : List ℕ) (room : ℕ) → Turn s e (requestOf e bearers room s)
-    request-turn bearers room =
-        by-cases (complete e bearers room) (λ t. rw t (repeat-turn (taken e bearers) (find (about e) s))) (λ t. rw t (turns (refused-turned 1)))
-
--- A tick ends the soonest record, if one is due, and sets the clock, which is no matter here.
-tick-turned : (s : Station) → Sound s → (e : Record) → wellFormed e ≡ true → e .kind ≡ 15 → Turned s e (tickOf e s)
-tick-turned s sound e formed fifteen =
-    by-cases (ltb (e .time) (s .clock)) (λ t. rw t (refused-turned s sound e 8)) (λ t. rw t (at-time (soonest e s) refl))
-  where
-    late : Sound (at (e .time) s)
-    late = sound-at s sound (e .time) (time-within e formed)
-
-    at-time : (found : Found) → soonest e s ≡ found → Turned s e (tickAt e found (at (e .time) s))
-    at-time Nothing _ = record { last = refl; change = λ j h. stays; says = other refl }
-    at-time (At i) found =
-        let t = decided-turned (at (e .time) s) late e formed i 0 (due-place s sound e i found) (soonest-due e fifteen s i found .1) in
-        record { last = t .last; change = t .change; says = t .says }
-
--- Every step does one of these.
-pub turn : (s : Station) → Sound s → (e : Record) (bearers : List ℕ) (room : ℕ) → Turn s e (stepOf s e bearers room)
-turn s sound e bearers room =
-    by-cases (wellFormed e)
-    (λ w. by-cases (eqb (e .kind) 1)
-    (λ t. rw (w, t) (request-turn s sound e w (eqb-true (e .kind) 1 t) bearers room))
-    (λ t. by-cases (eqb (e .kind) 9)
-    (λ u. rw (w, t, u) (start-turn s sound e w (eqb-true (e .kind) 9 u) (find isFree s) refl))
-    (λ u. by-cases (eqb (e .kind) 15)
-    (λ v. rw (w, t, u, v) (turns (tick-turned s sound e w (eqb-true (e .kind) 15 v))))
-    (λ v. by-cases (eqb (e .kind) 7 || eqb (e .kind) 14)
-    (λ x. rw (w, t, u, v, x) (turns (reset-turned s sound e x)))
-    (λ x. by-cases (eqb (e .kind) 8)
-    (λ y. rw (w, t, u, v, x, y) (turns (refused-turned s sound e 0)))
-    (λ y. rw (w, t, u, v, x, y) (turns (about-turned s sound e w (find (about e) s) refl))))))))
-    (λ w. rw w (turns (refused-turned s sound e 1)))
+  -- Every step does one of these.
+  pub turn : Turn s e (stepOf s e bearers room)
+  turn = turn-of (part s e bearers room)

@@ -1,27 +1,25 @@
 -- What the views of a station say of the places of its table.
 use Prim.Native.Nat.{ℕ, zero, suc, _+_, _≤_, _<_}
 use mathlib.Core.Path.{_≡_, refl, sym, ap, _∙_}
-use mathlib.Core.Bool.{Bool, true, false, cond, not, _&&_, true≢false, false≢true}
+use mathlib.Core.Bool.{Bool, true, false, cond, not, true≢false, false≢true}
 use mathlib.Core.Logic.{_⊎_, inl, inr, ⊎-elim}
 use mathlib.Core.List.{List, [], _∷_}
-use borrow.Author.Tests.{eqb-true}
 use native.Mathlib.Omega.{arith}
 use lib.Dec.{eqb}
 use lib.ListN.{length, getD}
 use Rattle.laws.proofs.Tests.{by-cases}
 use Rattle.table.specs.declared.Entry.{Entry}
 use Rattle.table.specs.declared.Found.{Found}
-use Rattle.table.specs.declared.Found.the-variants.{At, Nothing}
 use Rattle.table.specs.declared.Station.{Station}
 use Rattle.table.specs.Numbers.{isFree, blank, own, ownIs, anyOf, nextAfter, issueFrom}
 use Rattle.table.specs.Sound.{Sound, ownTimes}
 use Rattle.table.specs.Table.{find, tally}
 use Rattle.table.specs.Views.{count, times, ownIds, Walk, land, pass, recordAt, named}
-use Rattle.table.proofs.Counting.{own-is, own-free}
-use Rattle.table.proofs.Finding.{found-at, found-none}
-use Rattle.table.proofs.Orderless.{once-at, own-itself, none-at}
+use Rattle.table.proofs.Counting.{own-equal}
+use Rattle.table.proofs.Finding.{by-found, found-here, found-none}
+use Rattle.table.proofs.Orderless.{once-at}
 use Rattle.table.proofs.Placing.{found-place}
-use Rattle.table.proofs.Tally.{tally-equal, tally-none, tally-any}
+use Rattle.table.proofs.Tally.{tally-equal, tally-none, tally-any, none-at}
 
 -- ---- own IDs
 
@@ -41,27 +39,12 @@ unfolding ownIds tally
 own-length [] = refl
 own-length (r ∷ rs) = by-cases (isFree r) (λ t. rw t (omega (arith, own-length rs))) (λ t. rw t (omega (arith, own-length rs)))
 
--- A record has one own ID, a free place none.
-pub own-equal : (i : ℕ) (r : Entry) → ownIs i r ≡ (not (isFree r) && eqb i (own r))
-own-equal i r =
-    by-cases (ownIs i r)
-    (λ t.
-    by-cases (isFree r)
-    (λ u. absurd (omega (arith, rw t at (own-free i r u))))
-    (λ u. rw (t, u, own-is i r t)))
-    (λ t.
-    by-cases (isFree r) (λ u. rw (t, u))
-    (λ u.
-    by-cases (eqb i (own r))
-    (λ v. absurd (omega (arith, rw (← eqb-true i (own r) v, t) at (own-itself r u))))
-    (λ v. rw (t, u, v))))
-
--- So the number of times that an own ID stands in the list is the number of records that have it.
+-- The number of times that an own ID stands in the list is the number of records that have it.
 own-passes : (i : ℕ) (r : Entry) → passes (eqb i) r ≡ ownTimes i r
 own-passes i r = rw (own-equal i r) (by-cases (isFree r) (λ t. rw t) (λ t. rw t))
 
 pub times-own : (i : ℕ) (rs : List Entry) → times i (ownIds rs) ≡ tally (ownTimes i) rs
-times-own i rs = count-own (eqb i) rs ∙ tally-equal (passes (eqb i)) (ownTimes i) rs (own-passes i)
+times-own i rs = count-own (eqb i) rs ∙ tally-equal (passes (eqb i)) (ownTimes i) rs (λ j _. own-passes i (getD rs j blank))
 
 -- It does not stand there if no record has it, and does if one has.
 unused-none : (i : ℕ) (rs : List Entry) → anyOf (ownIs i) rs ≡ false → times i (ownIds rs) ≡ 0
@@ -86,15 +69,10 @@ module _ (s : Station) (sound : Sound s) (i : ℕ) where
   pub named-at : ((j : ℕ) × (j < 64) × (ownIs i (getD (s .entries) j blank) ≡ true) × (named i s ≡ getD (s .entries) j blank))
       ⊎ (((j : ℕ) → j < 64 → ownIs i (getD (s .entries) j blank) ≡ false) × (named i s ≡ blank))
   unfolding named
-  named-at = at (find (ownIs i) s) refl
-    where
-      at : (found : Found) → find (ownIs i) s ≡ found → ((j : ℕ) × (j < 64) × (ownIs i (getD (s .entries) j blank) ≡ true) × (recordAt found s ≡ getD (s .entries) j blank))
-          ⊎ (((j : ℕ) → j < 64 → ownIs i (getD (s .entries) j blank) ≡ false) × (recordAt found s ≡ blank))
-      at (At k) found =
-          let there = found-at (ownIs i) (s .entries) 0 k blank found in
-          let place : there .0 ≡ k = omega (arith, there .1) in
-          inl (k, found-place s sound (ownIs i) k found, rw place at (there .3), refl)
-      at Nothing found = inr (λ j h. none-at (ownIs i) (s .entries) j (omega (arith, sound .places)) (found-none (ownIs i) (s .entries) 0 found), refl)
+  named-at =
+      by-found (find (ownIs i) s)
+      (λ none. inr (λ j h. none-at (ownIs i) (s .entries) j (omega (arith, sound .places)) (found-none (ownIs i) (s .entries) 0 none), ap (λ (f : Found). recordAt f s) none))
+      (λ k found. inl (k, found-place s sound (ownIs i) k found, found-here (ownIs i) s k found .1, ap (λ (f : Found). recordAt f s) found))
 
   -- No two places have it.
   pub own-sole : (j k : ℕ) → j < 64 → k < 64 → ownIs i (getD (s .entries) j blank) ≡ true → ownIs i (getD (s .entries) k blank) ≡ true → j ≡ k

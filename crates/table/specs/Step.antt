@@ -43,6 +43,9 @@ aboutOne e (At i) s = carried i (decide e (getD (s .entries) i blank) (s .clock 
 aboutOne e Nothing s = refused 2 s
 
 -- "7 and 14: all outgoing and held records of that neighbour end; 7 sends 8, 14 sends 7; ending 10 even if there was none"
+abbrev pub isReset : ℕ → Bool
+isReset k = eqb k 7 || eqb k 14
+
 abbrev pub resetOf : Record → Station → Answer
 resetOf e s = answer 0 10 0 (message (cond (eqb (e .kind) 7) 8 7) (e .neighbour) 0 0 0 0 0) (reset e s)
 
@@ -116,11 +119,14 @@ heldFor e a s =
 abbrev pub failure : ℕ → Record → Station → Answer
 failure reply e s = answer reply 0 0 (message 3 (e .neighbour) (e .old .0) 0 0 0 reply) s
 
+-- what is admitted is held at a place, if it is anything
+abbrev pub granted : Record → Admission → ℕ → Station → Answer
+granted e a i s =
+    answer 0 0 (a .count) (message 2 (e .neighbour) (e .old .0) (issue s) (a .admitted) (a .refused) 0)
+    (add i (issue s) (heldFor e a s) s)
+
 abbrev pub grantAt : Record → Admission → ℕ → Station → Answer
-grantAt e a i s =
-    cond (eqb (a .admitted) 0) (failure 5 e s)
-    (answer 0 0 (a .count) (message 2 (e .neighbour) (e .old .0) (issue s) (a .admitted) (a .refused) 0)
-    (add i (issue s) (heldFor e a s) s))
+grantAt e a i s = cond (eqb (a .admitted) 0) (failure 5 e s) (granted e a i s)
 
 -- with its bearers at hand and a free place, if there is one; and what it leaves in the verdict buffer
 abbrev pub admittedAt : Record → List ℕ → Found → Station → Answer
@@ -156,7 +162,7 @@ abbrev pub eventOf : Record → Station → Answer
 eventOf e s =
     cond (eqb (e .kind) 9) (startAt e (find isFree s) s)
     (cond (eqb (e .kind) 15) (tickOf e s)
-    (cond (eqb (e .kind) 7 || eqb (e .kind) 14) (resetOf e s)
+    (cond (isReset (e .kind)) (resetOf e s)
     (cond (eqb (e .kind) 8) (answer 0 0 0 silence s)
     (aboutOne e (find (about e) s) s))))
 

@@ -16,7 +16,7 @@ use Rattle.table.specs.Events.{key, keyed, about}
 
 -- ---- finding
 
--- the first place, counted from one, at which a test holds
+-- the first place at which a test holds, the places being counted from the given number on
 unfoldable pub findFrom : (Entry → Bool) → ℕ → List Entry → Found
 findFrom test i [] = Nothing
 findFrom test i (r ∷ rs) = cond (test r) (At i) (findFrom test (i + 1) rs)
@@ -62,19 +62,23 @@ at time s =
       guard = s .guard;
     }
 
--- one record is replaced or ended; the units in use follow
-abbrev pub put : ℕ → Entry → Station → Station
-put i r s =
+-- the other three change its records, the own ID last issued and the units in use
+abbrev pub holding : List Entry → ℕ → ℕ → Station → Station
+holding entries last used s =
     record {
-      entries = set (s .entries) i r;
+      entries = entries;
       clock = s .clock;
-      last = s .last;
-      used = s .used - getD (s .entries) i blank .units + r .units;
+      last = last;
+      used = used;
       capacity = s .capacity;
       prep = s .prep;
       overall = s .overall;
       guard = s .guard;
     }
+
+-- one record is replaced or ended; the units in use follow
+abbrev pub put : ℕ → Entry → Station → Station
+put i r s = holding (set (s .entries) i r) (s .last) (s .used - getD (s .entries) i blank .units + r .units) s
 
 -- a place of the table, with units that can be taken back and given out
 pub record Puts (i : ℕ) (r : Entry) (s : Station) : Type 0 where
@@ -85,33 +89,19 @@ pub record Puts (i : ℕ) (r : Entry) (s : Station) : Type 0 where
 
 -- one record is made, with the own ID that is then the last issued
 abbrev pub add : ℕ → ℕ → Entry → Station → Station
-add i issued r s =
-    record {
-      entries = set (s .entries) i r;
-      clock = s .clock;
-      last = issued;
-      used = s .used + r .units;
-      capacity = s .capacity;
-      prep = s .prep;
-      overall = s .overall;
-      guard = s .guard;
-    }
+add i issued r s = holding (set (s .entries) i r) issued (s .used + r .units) s
 
 -- a number for each record, added up
 unfoldable pub tally : (Entry → ℕ) → List Entry → ℕ
 tally f [] = 0
 tally f (r ∷ rs) = f r + tally f rs
 
--- "all outgoing and held records of that neighbour end"
+-- "all outgoing and held records of that neighbour end": what a reset makes of a record, and the units that it takes back
+abbrev pub leftOf : Record → Entry → Entry
+leftOf e r = cond (about e r) blank r
+
+abbrev pub backOf : Record → Entry → ℕ
+backOf e r = cond (about e r) (r .units) 0
+
 abbrev pub reset : Record → Station → Station
-reset e s =
-    record {
-      entries = map (λ r. cond (about e r) blank r) (s .entries);
-      clock = s .clock;
-      last = s .last;
-      used = s .used - tally (λ r. cond (about e r) (r .units) 0) (s .entries);
-      capacity = s .capacity;
-      prep = s .prep;
-      overall = s .overall;
-      guard = s .guard;
-    }
+reset e s = holding (map (leftOf e) (s .entries)) (s .last) (s .used - tally (backOf e) (s .entries)) s

@@ -4,9 +4,7 @@ use mathlib.Core.Path.{_≡_, refl, _∙_, sym, subst}
 use native.Mathlib.Omega.{arith}
 use lib.ListN.{drop}
 use Rattle.table.specs.declared.Decision.{Decision}
-use Rattle.table.specs.declared.Found.the-variants.{At, Nothing}
 use Rattle.table.specs.Events.{about}
-use Rattle.table.specs.Numbers.{blank}
 use Rattle.table.specs.Table.{find, findFrom, Puts}
 use Rattle.table.proofs.Finding.{find-here, find-past, find-end}
 use Rattle.table.proofs.Placing.{decided-puts}
@@ -53,13 +51,15 @@ decide-requires c κs = (c .before .before .before .before .before .before .befo
 carried-requires : tie.Need-carried-requires Inv-loop μ-loop
 carried-requires c κs =
     let a = c .before .before .before .before .before .before .before .before .args in
-    subst (λ (d : Decision). Puts (c .before .before .before .before .before .loop .i) (d .entry) (a .t1)) (sym (c .decide .ensures)) (decided-puts (a .t1) (c .before .before .before .before .before .before .before .before .pre .1) (a .e) (c .before .before .before .before .before .loop .i) _ (c .before .before .before .before .loop-test .taken))
+    let i = c .before .before .before .before .before .loop .i in
+    subst (λ (d : Decision). Puts i (d .entry) (a .t1)) (sym (c .decide .ensures)) (decided-puts (a .t1) (c .before .before .before .before .before .before .before .before .pre .1) (a .e) i _ (c .before .before .before .before .loop-test .taken))
 
 returns : tie.Need-returns Inv-loop μ-loop
 returns c =
     let a = c .before .before .before .before .before .before .before .before .before .args in
-    let here : find (about (a .e)) (a .t1) ≡ At (c .before .before .before .before .before .before .loop .i) = sym (c .before .before .before .before .before .before .loop .inv .1) ∙ find-here (a .t1 .entries) (c .before .before .before .before .before .before .loop .i) blank (about (a .e)) (omega (arith, c .before .before .before .before .before .loop-test .taken, c .before .before .before .before .before .before .before .before .before .pre .1 .places)) (sym (c .before .before .before .is-about .ensures) ∙ c .before .before .if1 .taken) in
-    rw here (c .carried .ensures ∙ rw (c .before .decide .ensures))
+    let l = c .before .before .before .before .before .before .loop in
+    rw (find-here (a .t1) (c .before .before .before .before .before .before .before .before .before .pre .1 .places) (l .i) (about (a .e)) (l .inv .1) (c .before .before .before .before .before .loop-test .taken) (sym (c .before .before .before .is-about .ensures) ∙ c .before .before .if1 .taken))
+    (c .carried .ensures ∙ rw (c .before .decide .ensures))
 
 add-i : tie.Need-add-i Inv-loop μ-loop
 add-i c = search needs
@@ -70,7 +70,8 @@ loop-less c = search needs
 loop-again : tie.Need-loop-again Inv-loop μ-loop
 loop-again c =
     let a = c .before .before .before .before .before .before .before .args in
-    (omega arith, sym (find-past (a .t1 .entries) (c .before .before .before .before .loop .i) blank (about (a .e)) (omega (arith, c .before .before .before .loop-test .taken, c .before .before .before .before .before .before .before .pre .1 .places)) (sym (c .before .is-about .ensures) ∙ c .if1 .left)) ∙ c .before .before .before .before .loop .inv .1)
+    let l = c .before .before .before .before .loop in
+    (omega arith, find-past (a .t1) (c .before .before .before .before .before .before .before .pre .1 .places) (l .i) (about (a .e)) (l .inv .1) (c .before .before .before .loop-test .taken) (sym (c .before .is-about .ensures) ∙ c .if1 .left))
 
 quiet-requires : tie.Need-quiet-requires Inv-loop μ-loop
 quiet-requires c κs = search needs
@@ -78,8 +79,8 @@ quiet-requires c κs = search needs
 returns-2 : tie.Need-returns-2 Inv-loop μ-loop
 returns-2 c =
     let a = c .before .before .before .before .before .args in
-    let none : find (about (a .e)) (a .t1) ≡ Nothing = sym (c .before .before .loop .inv .1) ∙ find-end (a .t1 .entries) (c .before .before .loop .i) blank (about (a .e)) (omega (arith, c .before .loop-test .left, c .before .before .before .before .before .pre .1 .places)) in
-    rw (none, c .quiet .ensures)
+    let l = c .before .before .loop in
+    rw (find-end (a .t1) (c .before .before .before .before .before .pre .1 .places) (l .i) (about (a .e)) (l .inv .1) (c .before .loop-test .left), c .quiet .ensures)
 
 pub about-one-spec : {M : Type 1} → statement M
 about-one-spec =

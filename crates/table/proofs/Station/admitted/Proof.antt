@@ -1,14 +1,13 @@
 -- Where a place is free, the judgement says whether the bearers could be judged; where none is, a look at them does.
-use Prim.Native.Nat.{_-_, _/_, _≤_}
+use Prim.Native.Nat.{_≤_}
 use mathlib.Core.Bool.{true}
 use mathlib.Core.Path.{_≡_, _∙_, sym, ap, subst}
 use lib.ListN.{length}
-use Rattle.bearers.specs.Admission.{judgeable, admissionOf, release8}
-use Rattle.bearers.specs.Bearer.{bearersIn}
+use Rattle.bearers.specs.Admission.{judgeable}
 use Rattle.bearers.specs.declared.Admission.{Admission}
 use Rattle.table.specs.declared.Found.the-variants.{At, Nothing}
 use Rattle.table.specs.Numbers.{isFree}
-use Rattle.table.specs.Step.{grantAt}
+use Rattle.table.specs.Step.{admission, freeUnits, grantAt}
 use Rattle.table.specs.Table.{find}
 use Rattle.table.proofs.Placing.{found-place}
 use Rattle.table.proofs.Requests.{given, malformed, units-free}
@@ -21,10 +20,10 @@ here : (c : tie.After-known-told) → find isFree (c .before .before .before .be
 here c = sym (c .before .before .before .vacant .ensures) ∙ c .before .found .given .1
 
 -- what was admitted, and that the bearers could be judged
-judged : (c : tie.After-known-told2) → let a = c .before .before .before .before .before .before .before .before .before .before .before .before .before .before .args in (judgeable (a .bearers .now) (length (a .verdicts .now)) ≡ true) × (admissionOf release8 (a .self .capacity - a .self .used) (bearersIn (length (a .bearers .now) / 32) (a .bearers .now)) ≡ c .before .judged .given .0 .0)
+judged : (c : tie.After-known-told2) → let a = c .before .before .before .before .before .before .before .before .before .before .before .before .before .before .args in (judgeable (a .bearers .now) (length (a .verdicts .now)) ≡ true) × (admission (a .bearers .now) (a .self) ≡ c .before .judged .given .0 .0)
 judged c =
     let a = c .before .before .before .before .before .before .before .before .before .before .before .before .before .before .args in
-    given (a .bearers .now) (a .self .capacity - a .self .used) (length (a .verdicts .now)) _ (sym (c .before .before .before .before .before .admit .ensures .0) ∙ c .before .judged .given .1)
+    given (a .bearers .now) (freeUnits (a .self)) (length (a .verdicts .now)) _ (sym (c .before .before .before .before .before .admit .ensures .0) ∙ c .before .judged .given .1)
 
 vacant-requires : tie.Need-vacant-requires
 vacant-requires c κs = search needs
@@ -43,9 +42,10 @@ enum-known-judged c = search needs
 
 grant-requires : tie.Need-grant-requires
 grant-requires c κs =
-    let a = c .before .before .before .before .before .before .before .before .before .before .before .before .before .before .args in (
+    let a = c .before .before .before .before .before .before .before .before .before .before .before .before .before .before .args in
+    let free = freeUnits (a .self) in (
       found-place (a .self) (c .before .before .before .before .before .before .before .before .before .before .before .before .before .before .pre) isFree _ (here (c .before .before .before .before .before .before .before .before)),
-      subst (λ (x : Admission). x .units ≤ a .self .capacity - a .self .used) (judged c .1) (units-free (a .bearers .now) (a .self .capacity - a .self .used) (length (a .verdicts .now)) (judged c .0)),
+      subst (λ (x : Admission). x .units ≤ free) (judged c .1) (units-free (a .bearers .now) free (length (a .verdicts .now)) (judged c .0)),
       c .before .before .before .before .before .before .before .before .before .before .before .before .before .before .pre,
     )
 
@@ -65,10 +65,13 @@ same-length : tie.Need-same-length
 same-length c = search needs
 
 returns : tie.Need-returns
-returns c = (
-  rw (judged (c .before) .0, here (c .before .before .before .before .before .before .before .before .before)) (c .grant .ensures ∙ ap (λ (x : Admission). grantAt (c .before .before .before .before .before .before .before .before .before .before .before .before .before .before .before .args .e) x (c .before .before .before .before .before .before .before .before .before .before .found .given .0 .0) (c .before .before .before .before .before .before .before .before .before .before .before .before .before .before .before .args .self)) (sym (judged (c .before) .1))),
-  rw (judged (c .before) .0, here (c .before .before .before .before .before .before .before .before .before)) (c .before .before .before .before .before .before .admit .ensures .1 ∙ rw (judged (c .before) .0)),
-)
+returns c =
+    let a = c .before .before .before .before .before .before .before .before .before .before .before .before .before .before .before .args in
+    let could = judged (c .before) .0 in
+    let place = here (c .before .before .before .before .before .before .before .before .before) in (
+      rw (could, place) (c .grant .ensures ∙ ap (λ (x : Admission). grantAt (a .e) x (c .before .before .before .before .before .before .before .before .before .before .found .given .0 .0) (a .self)) (sym (judged (c .before) .1))),
+      rw (could, place) (c .before .before .before .before .before .before .admit .ensures .1 ∙ rw could),
+    )
 
 same-length-2 : tie.Need-same-length-2
 same-length-2 c = search needs
@@ -76,8 +79,9 @@ same-length-2 c = search needs
 returns-2 : tie.Need-returns-2
 returns-2 c =
     let a = c .before .before .before .before .before .before .before .before .before .before .before .before .before .before .args in
-    let bad = malformed (a .bearers .now) (a .self .capacity - a .self .used) (length (a .verdicts .now)) (sym (c .before .before .before .before .before .admit .ensures .0) ∙ c .before .enum-told .given .1) in
-    (rw (bad, c .quiet .ensures), rw bad (c .before .before .before .before .before .admit .ensures .1 ∙ rw bad))
+    let admit = c .before .before .before .before .before .admit .ensures in
+    let bad = malformed (a .bearers .now) (freeUnits (a .self)) (length (a .verdicts .now)) (sym (admit .0) ∙ c .before .enum-told .given .1) in
+    (rw (bad, c .quiet .ensures), rw bad (admit .1 ∙ rw bad))
 
 same-length-3 : tie.Need-same-length-3
 same-length-3 c = search needs

@@ -4,7 +4,6 @@ use mathlib.Core.Path.{_≡_, refl, _∙_, sym}
 use native.Mathlib.Omega.{arith}
 use lib.ListN.{drop}
 use Rattle.table.specs.Events.{about}
-use Rattle.table.specs.Numbers.{blank}
 use Rattle.table.specs.Table.{find, findFrom}
 use Rattle.table.proofs.Finding.{find-here, find-past, find-end}
 use borrow.Author.Needs.{needs}
@@ -39,7 +38,10 @@ is-about-requires : tie.Need-is-about-requires Inv-loop μ-loop
 is-about-requires c κs = search needs
 
 returns : tie.Need-returns Inv-loop μ-loop
-returns c = sym (find-here (c .before .before .before .before .before .before .before .args .t1 .entries) (c .before .before .before .before .loop .i) _ (about (c .before .before .before .before .before .before .before .args .e)) (omega (arith, c .before .before .before .before .before .before .before .pre .1)) (sym (c .before .is-about .ensures) ∙ c .if1 .taken)) ∙ c .before .before .before .before .loop .inv .1
+returns c =
+    let a = c .before .before .before .before .before .before .before .args in
+    let l = c .before .before .before .before .loop in
+    sym (find-here (a .t1) (c .before .before .before .before .before .before .before .pre .1) (l .i) (about (a .e)) (l .inv .1) (c .before .before .before .loop-test .taken) (sym (c .before .is-about .ensures) ∙ c .if1 .taken))
 
 add-i : tie.Need-add-i Inv-loop μ-loop
 add-i c = search needs
@@ -48,10 +50,16 @@ loop-less : tie.Need-loop-less Inv-loop μ-loop
 loop-less c = search needs
 
 loop-again : tie.Need-loop-again Inv-loop μ-loop
-loop-again c = (omega arith, sym (find-past (c .before .before .before .before .before .before .before .args .t1 .entries) (c .before .before .before .before .loop .i) _ (about (c .before .before .before .before .before .before .before .args .e)) (omega (arith, c .before .before .before .before .before .before .before .pre .1)) (sym (c .before .is-about .ensures) ∙ c .if1 .left)) ∙ c .before .before .before .before .loop .inv .1)
+loop-again c =
+    let a = c .before .before .before .before .before .before .before .args in
+    let l = c .before .before .before .before .loop in
+    (omega arith, find-past (a .t1) (c .before .before .before .before .before .before .before .pre .1) (l .i) (about (a .e)) (l .inv .1) (c .before .before .before .loop-test .taken) (sym (c .before .is-about .ensures) ∙ c .if1 .left))
 
 returns-2 : tie.Need-returns-2 Inv-loop μ-loop
-returns-2 c = sym (find-end (c .before .before .before .before .args .t1 .entries) (c .before .loop .i) blank (about (c .before .before .before .before .args .e)) (omega (arith, c .before .before .before .before .pre .1))) ∙ c .before .loop .inv .1
+returns-2 c =
+    let a = c .before .before .before .before .args in
+    let l = c .before .loop in
+    sym (find-end (a .t1) (c .before .before .before .before .pre .1) (l .i) (about (a .e)) (l .inv .1) (c .loop-test .left))
 
 pub find-spec : {M : Type 1} → statement M
 find-spec =

@@ -12,7 +12,9 @@ quiet-requires : tie.Need-quiet-requires
 quiet-requires c κs = search needs
 
 returns : tie.Need-returns
-returns c = (rw (sym (c .before .before .can-judge .ensures) ∙ not-true _ (c .before .if1 .taken), c .quiet .ensures), rw (sym (c .before .before .can-judge .ensures) ∙ not-true _ (c .before .if1 .taken)))
+returns c =
+    let bad = sym (c .before .before .can-judge .ensures) ∙ not-true _ (c .before .if1 .taken) in
+    (rw (bad, c .quiet .ensures), rw bad)
 
 refuse-all-requires : tie.Need-refuse-all-requires
 refuse-all-requires c κs = search needs
@@ -24,7 +26,9 @@ same-length : tie.Need-same-length
 same-length c = search needs
 
 returns-2 : tie.Need-returns-2
-returns-2 c = (rw (sym (c .before .before .before .before .before .before .can-judge .ensures) ∙ not-false _ (c .before .before .before .before .before .if1 .left)) (c .failure .ensures), rw (sym (c .before .before .before .before .before .before .can-judge .ensures) ∙ not-false _ (c .before .before .before .before .before .if1 .left)) (c .before .before .before .refuse-all .ensures))
+returns-2 c =
+    let judged = sym (c .before .before .before .before .before .before .can-judge .ensures) ∙ not-false _ (c .before .before .before .before .before .if1 .left) in
+    (rw judged (c .failure .ensures), rw judged (c .before .before .before .refuse-all .ensures))
 
 pub full-spec : {M : Type 1} → statement M
 full-spec =

@@ -25,7 +25,9 @@ uses-requires : tie.Need-uses-requires Inv-loop μ-loop
 uses-requires c κs = search needs
 
 returns : tie.Need-returns Inv-loop μ-loop
-returns c = (sym (issue-free (c .before .before .before .loop .most) _ _ (sym (c .before .uses .ensures) ∙ not-true _ (c .if1 .taken))) ∙ c .before .before .before .loop .inv .1, c .before .before .before .loop .inv .0)
+returns c =
+    let l = c .before .before .before .loop in
+    (sym (issue-free (l .most) _ _ (sym (c .before .uses .ensures) ∙ not-true _ (c .if1 .taken))) ∙ l .inv .1, l .inv .0)
 
 next-after-requires-2 : tie.Need-next-after-requires-2 Inv-loop μ-loop
 next-after-requires-2 c κs = c .before .before .before .loop .inv .0
@@ -37,10 +39,15 @@ loop-less : tie.Need-loop-less Inv-loop μ-loop
 loop-less c = search needs
 
 loop-again : tie.Need-loop-again Inv-loop μ-loop
-loop-again c = (rw (c .next-after2 .ensures) (next-small _ (c .before .before .before .before .loop .inv .0)), rw (c .next-after2 .ensures) (sym (issue-used (c .before .before .before .before .loop .most) _ _ (c .before .before .before .loop-test .taken) (sym (c .before .before .uses .ensures) ∙ not-false _ (c .before .if1 .left))) ∙ c .before .before .before .before .loop .inv .1))
+loop-again c =
+    let l = c .before .before .before .before .loop in
+    let past = issue-used (l .most) _ _ (c .before .before .before .loop-test .taken) (sym (c .before .before .uses .ensures) ∙ not-false _ (c .before .if1 .left)) in
+    rw (c .next-after2 .ensures) (next-small _ (l .inv .0), sym past ∙ l .inv .1)
 
 returns-2 : tie.Need-returns-2 Inv-loop μ-loop
-returns-2 c = (sym (issue-none (c .before .loop .most) _ _ (c .loop-test .left)) ∙ c .before .loop .inv .1, c .before .loop .inv .0)
+returns-2 c =
+    let l = c .before .loop in
+    (sym (issue-none (l .most) _ _ (c .loop-test .left)) ∙ l .inv .1, l .inv .0)
 
 pub issue-spec : {M : Type 1} → statement M
 issue-spec =

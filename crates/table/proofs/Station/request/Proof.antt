@@ -33,7 +33,8 @@ returns-2 c =
 requested-requires : tie.Need-requested-requires
 requested-requires c κs =
     let formed = sym (c .before .before .well-formed .ensures) ∙ not-false _ (c .before .if2 .left) in
-    (kind-small (c .before .before .before .before .before .before .before .args .e) formed, number-within (c .before .before .before .before .before .before .before .args .e) formed, sound (c .before .before .before .before .before .before .before .pre))
+    let e = c .before .before .before .before .before .before .before .args .e in
+    (kind-small e formed, number-within e formed, sound (c .before .before .before .before .before .before .before .pre))
 
 same-length : tie.Need-same-length
 same-length c = search needs
@@ -42,7 +43,8 @@ returns-3 : tie.Need-returns-3
 returns-3 c =
     let formed = sym (c .before .before .before .before .before .well-formed .ensures) ∙ not-false _ (c .before .before .before .before .if2 .left) in
     let one = not-false (eqb (c .before .before .before .before .before .before .before .before .before .before .args .e .kind) 1) (c .before .before .before .before .before .before .if1 .left) in
-    (rw (formed, one) (c .before .before .requested .ensures .0), rw (formed, one) (c .before .before .requested .ensures .1))
+    let requested = c .before .before .requested .ensures in
+    (rw (formed, one) (requested .0), rw (formed, one) (requested .1))
 
 pub request-spec : {M : Type 1} → statement M
 request-spec =

@@ -20,7 +20,10 @@ quiet-requires : tie.Need-quiet-requires
 quiet-requires c κs = search needs
 
 returns : tie.Need-returns
-returns c = (rw (lt-leb (c .before .before .before .before .before .args .e .number * 32) (length (c .before .before .before .before .before .args .bearers .now)) (c .before .if1 .taken), c .quiet .ensures), rw (lt-leb (c .before .before .before .before .before .args .e .number * 32) (length (c .before .before .before .before .before .args .bearers .now)) (c .before .if1 .taken)))
+returns c =
+    let a = c .before .before .before .before .before .args in
+    let few = lt-leb (a .e .number * 32) (length (a .bearers .now)) (c .before .if1 .taken) in
+    (rw (few, c .quiet .ensures), rw few)
 
 find-requires : tie.Need-find-requires
 find-requires c κs = search needs
@@ -50,22 +53,23 @@ returns-2 : tie.Need-returns-2
 returns-2 c =
     let a = c .before .before .before .before .before .before .before .before .before .before .before .args in
     let enough = le-leb (a .e .number * 32) (length (a .bearers .now)) (c .before .before .before .before .before .before .before .if1 .left) in
-    let there = sym (c .before .before .before .before .before .before .find .ensures) ∙ c .before .before .before .before .enum-told .given .1 in (
-      ⊎-elim
-          (λ t. rw (enough, sym (c .before .before .can-judge .ensures) ∙ t .0 .taken, there, c .quiet2 .ensures, t .1))
-          (λ t. rw (enough, sym (c .before .before .can-judge .ensures) ∙ t .0 .left, c .quiet2 .ensures, t .1))
-          (c .before .if2 .came),
-      ⊎-elim
-          (λ t. rw (enough, sym (c .before .before .can-judge .ensures) ∙ t .0 .taken, there))
-          (λ t. rw (enough, sym (c .before .before .can-judge .ensures) ∙ t .0 .left))
-          (c .before .if2 .came),
-    )
+    let there = sym (c .before .before .before .before .before .before .find .ensures) ∙ c .before .before .before .before .enum-told .given .1 in
+    let judged = sym (c .before .before .can-judge .ensures) in
+    ⊎-elim
+    (λ t. (rw (enough, judged ∙ t .0 .taken, there, c .quiet2 .ensures, t .1), rw (enough, judged ∙ t .0 .taken, there)))
+    (λ t. (rw (enough, judged ∙ t .0 .left, c .quiet2 .ensures, t .1), rw (enough, judged ∙ t .0 .left)))
+    (c .before .if2 .came)
 
 same-length : tie.Need-same-length
 same-length c = search needs
 
 returns-3 : tie.Need-returns-3
-returns-3 c = (rw (le-leb (c .before .before .before .before .before .before .before .before .before .before .before .before .args .e .number * 32) (length (c .before .before .before .before .before .before .before .before .before .before .before .before .args .bearers .now)) (c .before .before .before .before .before .before .before .before .if1 .left), sym (c .before .before .before .before .before .before .before .find .ensures) ∙ c .before .before .before .before .before .enum-told2 .given .1) (c .before .before .admitted .ensures .0), rw (le-leb (c .before .before .before .before .before .before .before .before .before .before .before .before .args .e .number * 32) (length (c .before .before .before .before .before .before .before .before .before .before .before .before .args .bearers .now)) (c .before .before .before .before .before .before .before .before .if1 .left), sym (c .before .before .before .before .before .before .before .find .ensures) ∙ c .before .before .before .before .before .enum-told2 .given .1) (c .before .before .admitted .ensures .1))
+returns-3 c =
+    let a = c .before .before .before .before .before .before .before .before .before .before .before .before .args in
+    let enough = le-leb (a .e .number * 32) (length (a .bearers .now)) (c .before .before .before .before .before .before .before .before .if1 .left) in
+    let none = sym (c .before .before .before .before .before .before .before .find .ensures) ∙ c .before .before .before .before .before .enum-told2 .given .1 in
+    let admitted = c .before .before .admitted .ensures in
+    (rw (enough, none) (admitted .0), rw (enough, none) (admitted .1))
 
 pub requested-spec : {M : Type 1} → statement M
 requested-spec =

@@ -22,7 +22,9 @@ abbrev μ-loop : tie.MeasureT-loop
 
 -- the record at the place can be ended
 ends : (c : tie.In-loop Inv-loop μ-loop) → Puts (c .before .loop .i) blank (c .before .loop .self)
-ends c = subst (λ (s : Station). Puts (c .before .loop .i) blank s) (sym (c .before .loop .inv .1)) (partly-puts (c .before .before .before .before .args .e) (c .before .before .before .before .args .t1) (c .before .before .before .before .pre .1) (c .before .loop .i) (c .loop-test .taken))
+ends c =
+    let l = c .before .loop in
+    subst (λ (s : Station). Puts (l .i) blank s) (sym (l .inv .1)) (partly-puts (c .before .before .before .before .args .e) (c .before .before .before .before .args .t1) (c .before .before .before .before .pre .1) (l .i) (c .loop-test .taken))
 
 cast-kind : tie.Need-cast-kind Inv-loop μ-loop
 cast-kind c = search needs
@@ -34,7 +36,7 @@ array-copy-out-key : tie.Need-array-copy-out-key Inv-loop μ-loop
 array-copy-out-key c = search needs
 
 loop-holds : tie.Need-loop-holds Inv-loop μ-loop
-loop-holds c = (omega arith, partly-none (c .before .before .args .e) (c .before .before .args .t1) (c .before .before .pre .1))
+loop-holds c = (omega arith, partly-none (c .before .before .args .e) (c .before .before .args .t1))
 
 mul-r : tie.Need-mul-r Inv-loop μ-loop
 mul-r c = search needs
@@ -67,14 +69,19 @@ loop-again : tie.Need-loop-again Inv-loop μ-loop
 loop-again c =
     let a = c .before .before .before .before .before .before .before .args in
     let l = c .before .before .before .before .loop in
+    let mine = sym (c .before .is-about .ensures) in
     let next : c .if1 .self ≡ endedBy (key (a .e .kind)) (l .i) (a .e) (l .self) =
-    ⊎-elim (λ t. t .3 ∙ sym (rw (sym (c .before .is-about .ensures) ∙ t .0 .taken, t .2 .ensures, add-zero (l .self .used - getD (l .self .entries) (l .i) blank .units)))) (λ t. t .1 ∙ sym (rw (sym (c .before .is-about .ensures) ∙ t .0 .left))) (c .if1 .came) in
+    ⊎-elim
+    (λ t. t .3 ∙ sym (rw (mine ∙ t .0 .taken, t .2 .ensures, add-zero (l .self .used - getD (l .self .entries) (l .i) blank .units))))
+    (λ t. t .1 ∙ sym (rw (mine ∙ t .0 .left)))
+    (c .if1 .came) in
     (omega arith, next ∙ ap (endedBy (key (a .e .kind)) (l .i) (a .e)) (l .inv .1) ∙ partly-next (a .e) (a .t1) (c .before .before .before .before .before .before .before .pre .1) (l .i) (c .before .before .before .loop-test .taken))
 
 returns : tie.Need-returns Inv-loop μ-loop
 returns c =
     let all : c .before .loop .i ≡ 64 = omega arith in
-    rw all at (c .before .loop .inv .1) ∙ partly-all (c .before .before .before .before .args .e) (c .before .before .before .before .args .t1) (c .before .before .before .before .pre .1)
+    let a = c .before .before .before .before .args in
+    rw all at (c .before .loop .inv .1) ∙ partly-all (a .e) (a .t1) (c .before .before .before .before .pre .1)
 
 pub reset-spec : {M : Type 1} → statement M
 reset-spec =

@@ -1,11 +1,10 @@
--- What is found is a place of the table, and its decision is carried out there.
+-- The record is made in the free place that is found, if there is one.
 use Prim.Native.Nat.{_<_}
 use mathlib.Core.Path.{_≡_, _∙_, sym}
 use native.Mathlib.Nat.{add-zero}
 use native.Mathlib.Omega.{arith}
 use Rattle.table.specs.declared.Found.the-variants.{At}
 use Rattle.table.specs.Numbers.{isFree}
-use Rattle.table.specs.Step.{carried}
 use Rattle.table.specs.Table.{find}
 use Rattle.table.proofs.Placing.{found-place}
 use borrow.Author.Needs.{needs}

@@ -11,7 +11,7 @@ use Rattle.table.specs.declared.Decision.{Decision}
 use Rattle.table.specs.declared.Found.the-variants.{At, Nothing}
 use Rattle.table.specs.Events.{key}
 use Rattle.table.specs.Numbers.{blank}
-use Rattle.table.specs.Table.{betterBy, dueFrom, soonest, at, Puts}
+use Rattle.table.specs.Table.{betterBy, placeOf, dueFrom, soonest, at, Puts}
 use Rattle.table.proofs.Finding.{due-past, due-end}
 use Rattle.table.proofs.Placing.{due-place, decided-puts, puts-at}
 use borrow.Author.Needs.{needs}
@@ -24,11 +24,16 @@ Inv-loop e self kind key best₀ i₀ best i = (i ≤ 64) × (dueFrom e best i (
 abbrev μ-loop : tie.MeasureT-loop
 μ-loop e self kind key best₀ i₀ best i = 64 - i
 
--- what stands after the loop is the soonest, and its place is one of the table's
+-- after the loop the best so far is the soonest
+ended : (c : tie.After-loop Inv-loop μ-loop) → soonest (c .before .before .before .before .before .before .before .args .e) (c .before .before .before .before .before .before .before .args .t1) ≡ placeOf (c .before .loop .best)
+ended c =
+    let a = c .before .before .before .before .before .before .before .args in
+    let l = c .before .loop in
+    due-end (a .t1) (c .before .before .before .before .before .before .before .pre .1 .places) (l .i) (a .e) (l .best) (l .inv .1) (c .loop-test .left)
+
+-- if it is a record, its place is one of the table's
 found : (c : tie.Else3 Inv-loop μ-loop) → soonest (c .before .before .before .before .before .before .before .before .before .args .e) (c .before .before .before .before .before .before .before .before .before .args .t1) ≡ At (c .before .before .before .loop .best .place)
-found c =
-    let a = c .before .before .before .before .before .before .before .before .before .args in
-    rw (ne-eqb (c .before .before .before .loop .best .entry .state) 0 (c .if3 .left)) at (sym (c .before .before .before .loop .inv .1) ∙ due-end (a .t1 .entries) (c .before .before .before .loop .i) blank (a .e) (c .before .before .before .loop .best) (omega (arith, c .before .before .loop-test .left, c .before .before .before .before .before .before .before .before .before .pre .1 .places)))
+found c = rw (ne-eqb (c .before .before .before .loop .best .entry .state) 0 (c .if3 .left)) at (ended (c .before .before))
 
 place : (c : tie.Else3 Inv-loop μ-loop) → c .before .before .before .loop .best .place < 64
 place c = due-place (c .before .before .before .before .before .before .before .before .before .args .t1) (c .before .before .before .before .before .before .before .before .before .pre .1) (c .before .before .before .before .before .before .before .before .before .args .e) _ (found c)
@@ -73,9 +78,10 @@ loop-again : tie.Need-loop-again Inv-loop μ-loop
 loop-again c =
     let a = c .before .before .before .before .before .before .before .before .before .before .args in
     let l = c .before .before .before .before .loop in
+    let sooner = sym (c .before .is-sooner .ensures) in
     let next : c .if2 .best ≡ betterBy (key (a .e .kind)) (a .e) (l .i) (getD (a .t1 .entries) (l .i) blank) (l .best) =
-    ⊎-elim (λ t. t .1 ∙ sym (rw (sym (c .before .is-sooner .ensures) ∙ t .0 .taken))) (λ t. t .1 ∙ sym (rw (sym (c .before .is-sooner .ensures) ∙ t .0 .left))) (c .if2 .came) in
-    (omega arith, ap (λ (b : Best). dueFrom (a .e) b (l .i + 1) (drop (l .i + 1) (a .t1 .entries))) next ∙ sym (due-past (a .t1 .entries) (l .i) blank (a .e) (l .best) (omega (arith, c .before .before .before .loop-test .taken, c .before .before .before .before .before .before .before .before .before .before .pre .1 .places))) ∙ l .inv .1)
+    ⊎-elim (λ t. rw (sooner ∙ t .0 .taken) (t .1)) (λ t. rw (sooner ∙ t .0 .left) (t .1)) (c .if2 .came) in
+    (omega arith, ap (λ (b : Best). dueFrom (a .e) b (l .i + 1) (drop (l .i + 1) (a .t1 .entries))) next ∙ due-past (a .t1) (c .before .before .before .before .before .before .before .before .before .before .pre .1 .places) (l .i) (a .e) (l .best) (l .inv .1) (c .before .before .before .loop-test .taken))
 
 quiet-requires-2 : tie.Need-quiet-requires-2 Inv-loop μ-loop
 quiet-requires-2 c κs = search needs
@@ -83,7 +89,7 @@ quiet-requires-2 c κs = search needs
 returns-2 : tie.Need-returns-2 Inv-loop μ-loop
 returns-2 c =
     let a = c .before .before .before .before .before .before .before .before .before .before .args in
-    let none : soonest (a .e) (a .t1) ≡ Nothing = rw (eq-eqb (c .before .before .before .before .loop .best .entry .state) 0 (c .before .if3 .taken)) at (sym (c .before .before .before .before .loop .inv .1) ∙ due-end (a .t1 .entries) (c .before .before .before .before .loop .i) blank (a .e) (c .before .before .before .before .loop .best) (omega (arith, c .before .before .before .loop-test .left, c .before .before .before .before .before .before .before .before .before .before .pre .1 .places))) in
+    let none : soonest (a .e) (a .t1) ≡ Nothing = rw (eq-eqb (c .before .before .before .before .loop .best .entry .state) 0 (c .before .if3 .taken)) at (ended (c .before .before .before)) in
     rw (le-ltb (a .e .time) (a .t1 .clock) (c .before .before .before .before .before .before .before .before .if1 .left), none, c .quiet2 .ensures)
 
 mul-r-2 : tie.Need-mul-r-2 Inv-loop μ-loop
@@ -98,7 +104,8 @@ decide-requires c κs = (c .before .before .before .before .before .before .befo
 carried-requires : tie.Need-carried-requires Inv-loop μ-loop
 carried-requires c κs =
     let a = c .before .before .before .before .before .before .before .before .before .before .before .args in
-    subst (λ (d : Decision). Puts (c .before .before .before .before .before .loop .best .place) (d .entry) (at (a .e .time) (a .t1))) (sym (c .decide .ensures)) (puts-at (a .e .time) (decided-puts (a .t1) (c .before .before .before .before .before .before .before .before .before .before .before .pre .1) (a .e) (c .before .before .before .before .before .loop .best .place) 0 (place (c .before .before))))
+    let i = c .before .before .before .before .before .loop .best .place in
+    subst (λ (d : Decision). Puts i (d .entry) (at (a .e .time) (a .t1))) (sym (c .decide .ensures)) (puts-at (a .e .time) (decided-puts (a .t1) (c .before .before .before .before .before .before .before .before .before .before .before .pre .1) (a .e) i 0 (place (c .before .before))))
 
 returns-3 : tie.Need-returns-3 Inv-loop μ-loop
 returns-3 c =

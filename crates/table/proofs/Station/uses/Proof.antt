@@ -3,7 +3,7 @@ use Prim.Native.Nat.{_≤_, _-_}
 use mathlib.Core.Path.{_≡_, refl, _∙_, sym}
 use native.Mathlib.Omega.{arith}
 use lib.ListN.{drop}
-use Rattle.table.specs.Numbers.{anyOf, blank, ownIs}
+use Rattle.table.specs.Numbers.{anyOf, ownIs}
 use Rattle.table.proofs.Finding.{any-here, any-past, any-end}
 use borrow.Author.Needs.{needs}
 use Rattle.table.proofs.Station.uses.Statement.{statement}
@@ -28,7 +28,10 @@ own-is-requires : tie.Need-own-is-requires Inv-loop μ-loop
 own-is-requires c κs = search needs
 
 returns : tie.Need-returns Inv-loop μ-loop
-returns c = sym (any-here (c .before .before .before .before .before .args .t1 .entries) (c .before .before .before .before .loop .i) _ (ownIs (c .before .before .before .before .before .args .id)) (omega (arith, c .before .before .before .before .before .pre)) (sym (c .before .own-is .ensures) ∙ c .if1 .taken)) ∙ c .before .before .before .before .loop .inv .1
+returns c =
+    let a = c .before .before .before .before .before .args in
+    let l = c .before .before .before .before .loop in
+    sym (any-here (a .t1) (c .before .before .before .before .before .pre) (l .i) (ownIs (a .id)) (l .inv .1) (c .before .before .before .loop-test .taken) (sym (c .before .own-is .ensures) ∙ c .if1 .taken))
 
 add-i : tie.Need-add-i Inv-loop μ-loop
 add-i c = search needs
@@ -37,10 +40,16 @@ loop-less : tie.Need-loop-less Inv-loop μ-loop
 loop-less c = search needs
 
 loop-again : tie.Need-loop-again Inv-loop μ-loop
-loop-again c = (omega arith, sym (any-past (c .before .before .before .before .before .args .t1 .entries) (c .before .before .before .before .loop .i) _ (ownIs (c .before .before .before .before .before .args .id)) (omega (arith, c .before .before .before .before .before .pre)) (sym (c .before .own-is .ensures) ∙ c .if1 .left)) ∙ c .before .before .before .before .loop .inv .1)
+loop-again c =
+    let a = c .before .before .before .before .before .args in
+    let l = c .before .before .before .before .loop in
+    (omega arith, any-past (a .t1) (c .before .before .before .before .before .pre) (l .i) (ownIs (a .id)) (l .inv .1) (c .before .before .before .loop-test .taken) (sym (c .before .own-is .ensures) ∙ c .if1 .left))
 
 returns-2 : tie.Need-returns-2 Inv-loop μ-loop
-returns-2 c = sym (any-end (c .before .before .args .t1 .entries) (c .before .loop .i) blank (ownIs (c .before .before .args .id)) (omega (arith, c .before .before .pre))) ∙ c .before .loop .inv .1
+returns-2 c =
+    let a = c .before .before .args in
+    let l = c .before .loop in
+    sym (any-end (a .t1) (c .before .before .pre) (l .i) (ownIs (a .id)) (l .inv .1) (c .loop-test .left))
 
 pub uses-spec : {M : Type 1} → statement M
 uses-spec =

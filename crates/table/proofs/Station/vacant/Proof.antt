@@ -1,10 +1,10 @@
 -- What is found from here on is what is found in all.
 use borrow.Author.Tests.{eq-eqb, ne-eqb}
 use Prim.Native.Nat.{_≤_, _-_}
-use mathlib.Core.Path.{_≡_, refl, _∙_, sym}
+use mathlib.Core.Path.{_≡_, refl, sym}
 use native.Mathlib.Omega.{arith}
 use lib.ListN.{drop}
-use Rattle.table.specs.Numbers.{isFree, blank}
+use Rattle.table.specs.Numbers.{isFree}
 use Rattle.table.specs.Table.{find, findFrom}
 use Rattle.table.proofs.Finding.{find-here, find-past, find-end}
 use borrow.Author.Needs.{needs}
@@ -27,7 +27,9 @@ element-copy-out-r : tie.Need-element-copy-out-r Inv-loop μ-loop
 element-copy-out-r c = search needs
 
 returns : tie.Need-returns Inv-loop μ-loop
-returns c = sym (find-here (c .before .before .before .before .before .args .t1 .entries) (c .before .before .before .before .loop .i) _ isFree (omega (arith, c .before .before .before .before .before .pre)) (eq-eqb _ 0 (c .if1 .taken))) ∙ c .before .before .before .before .loop .inv .1
+returns c =
+    let l = c .before .before .before .before .loop in
+    sym (find-here (c .before .before .before .before .before .args .t1) (c .before .before .before .before .before .pre) (l .i) isFree (l .inv .1) (c .before .before .before .loop-test .taken) (eq-eqb _ 0 (c .if1 .taken)))
 
 add-i : tie.Need-add-i Inv-loop μ-loop
 add-i c = search needs
@@ -36,10 +38,14 @@ loop-less : tie.Need-loop-less Inv-loop μ-loop
 loop-less c = search needs
 
 loop-again : tie.Need-loop-again Inv-loop μ-loop
-loop-again c = (omega arith, sym (find-past (c .before .before .before .before .before .args .t1 .entries) (c .before .before .before .before .loop .i) _ isFree (omega (arith, c .before .before .before .before .before .pre)) (ne-eqb _ 0 (c .if1 .left))) ∙ c .before .before .before .before .loop .inv .1)
+loop-again c =
+    let l = c .before .before .before .before .loop in
+    (omega arith, find-past (c .before .before .before .before .before .args .t1) (c .before .before .before .before .before .pre) (l .i) isFree (l .inv .1) (c .before .before .before .loop-test .taken) (ne-eqb _ 0 (c .if1 .left)))
 
 returns-2 : tie.Need-returns-2 Inv-loop μ-loop
-returns-2 c = sym (find-end (c .before .before .args .t1 .entries) (c .before .loop .i) blank isFree (omega (arith, c .before .before .pre))) ∙ c .before .loop .inv .1
+returns-2 c =
+    let l = c .before .loop in
+    sym (find-end (c .before .before .args .t1) (c .before .before .pre) (l .i) isFree (l .inv .1) (c .loop-test .left))
 
 pub vacant-spec : {M : Type 1} → statement M
 vacant-spec =

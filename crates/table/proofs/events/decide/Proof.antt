@@ -42,22 +42,40 @@ blank-requires : tie.Need-blank-requires
 blank-requires c κs = search needs
 
 returns : tie.Need-returns
-returns c = rw (eq-eqb (actionOf (c .before .before .before .before .before .args .e .kind) (c .before .before .before .before .before .args .r .state)) 0 (c .before .if1 .taken)) (c .refusal .ensures)
+returns c =
+    let a = c .before .before .before .before .before .args in
+    let action = actionOf (a .e .kind) (a .r .state) in
+    rw (eq-eqb action 0 (c .before .if1 .taken)) (c .refusal .ensures)
 
 returns-2 : tie.Need-returns-2
-returns-2 c = rw (ne-eqb (actionOf (c .before .before .before .before .before .before .args .e .kind) (c .before .before .before .before .before .before .args .r .state)) 0 (c .before .before .if1 .left), eq-eqb (actionOf (c .before .before .before .before .before .before .args .e .kind) (c .before .before .before .before .before .before .args .r .state)) 11 (c .before .if2 .taken)) (c .acknowledged .ensures)
+returns-2 c =
+    let a = c .before .before .before .before .before .before .args in
+    let action = actionOf (a .e .kind) (a .r .state) in
+    rw (ne-eqb action 0 (c .before .before .if1 .left), eq-eqb action 11 (c .before .if2 .taken)) (c .acknowledged .ensures)
 
 returns-3 : tie.Need-returns-3
-returns-3 c = rw (ne-eqb (actionOf (c .before .before .before .before .before .before .before .args .e .kind) (c .before .before .before .before .before .before .before .args .r .state)) 0 (c .before .before .before .if1 .left), ne-eqb (actionOf (c .before .before .before .before .before .before .before .args .e .kind) (c .before .before .before .before .before .before .before .args .r .state)) 11 (c .before .before .if2 .left), eq-eqb (actionOf (c .before .before .before .before .before .before .before .args .e .kind) (c .before .before .before .before .before .before .before .args .r .state)) 12 (c .before .if3 .taken)) (c .status-stored .ensures)
+returns-3 c =
+    let a = c .before .before .before .before .before .before .before .args in
+    let action = actionOf (a .e .kind) (a .r .state) in
+    rw (ne-eqb action 0 (c .before .before .before .if1 .left), ne-eqb action 11 (c .before .before .if2 .left), eq-eqb action 12 (c .before .if3 .taken)) (c .status-stored .ensures)
 
 returns-4 : tie.Need-returns-4
-returns-4 c = rw (ne-eqb (actionOf (c .before .before .before .before .before .before .before .before .args .e .kind) (c .before .before .before .before .before .before .before .before .args .r .state)) 0 (c .before .before .before .before .if1 .left), ne-eqb (actionOf (c .before .before .before .before .before .before .before .before .args .e .kind) (c .before .before .before .before .before .before .before .before .args .r .state)) 11 (c .before .before .before .if2 .left), ne-eqb (actionOf (c .before .before .before .before .before .before .before .before .args .e .kind) (c .before .before .before .before .before .before .before .before .args .r .state)) 12 (c .before .before .if3 .left), eq-eqb (actionOf (c .before .before .before .before .before .before .before .before .args .e .kind) (c .before .before .before .before .before .before .before .before .args .r .state)) 13 (c .before .if4 .taken)) (c .status-sent .ensures)
+returns-4 c =
+    let a = c .before .before .before .before .before .before .before .before .args in
+    let action = actionOf (a .e .kind) (a .r .state) in
+    rw (ne-eqb action 0 (c .before .before .before .before .if1 .left), ne-eqb action 11 (c .before .before .before .if2 .left), ne-eqb action 12 (c .before .before .if3 .left), eq-eqb action 13 (c .before .if4 .taken)) (c .status-sent .ensures)
 
 returns-5 : tie.Need-returns-5
-returns-5 c = rw (ne-eqb (actionOf (c .before .before .before .before .before .before .before .before .before .args .e .kind) (c .before .before .before .before .before .before .before .before .before .args .r .state)) 0 (c .before .before .before .before .before .if1 .left), ne-eqb (actionOf (c .before .before .before .before .before .before .before .before .before .args .e .kind) (c .before .before .before .before .before .before .before .before .before .args .r .state)) 11 (c .before .before .before .before .if2 .left), ne-eqb (actionOf (c .before .before .before .before .before .before .before .before .before .args .e .kind) (c .before .before .before .before .before .before .before .before .before .args .r .state)) 12 (c .before .before .before .if3 .left), ne-eqb (actionOf (c .before .before .before .before .before .before .before .before .before .args .e .kind) (c .before .before .before .before .before .before .before .before .before .args .r .state)) 13 (c .before .before .if4 .left), eq-eqb (actionOf (c .before .before .before .before .before .before .before .before .before .args .e .kind) (c .before .before .before .before .before .before .before .before .before .args .r .state)) 8 (c .before .if5 .taken)) (c .arrived .ensures)
+returns-5 c =
+    let a = c .before .before .before .before .before .before .before .before .before .args in
+    let action = actionOf (a .e .kind) (a .r .state) in
+    rw (ne-eqb action 0 (c .before .before .before .before .before .if1 .left), ne-eqb action 11 (c .before .before .before .before .if2 .left), ne-eqb action 12 (c .before .before .before .if3 .left), ne-eqb action 13 (c .before .before .if4 .left), eq-eqb action 8 (c .before .if5 .taken)) (c .arrived .ensures)
 
 returns-6 : tie.Need-returns-6
-returns-6 c = rw (ne-eqb (actionOf (c .before .before .before .before .before .before .before .before .before .before .args .e .kind) (c .before .before .before .before .before .before .before .before .before .before .args .r .state)) 0 (c .before .before .before .before .before .before .if1 .left), ne-eqb (actionOf (c .before .before .before .before .before .before .before .before .before .before .args .e .kind) (c .before .before .before .before .before .before .before .before .before .before .args .r .state)) 11 (c .before .before .before .before .before .if2 .left), ne-eqb (actionOf (c .before .before .before .before .before .before .before .before .before .before .args .e .kind) (c .before .before .before .before .before .before .before .before .before .before .args .r .state)) 12 (c .before .before .before .before .if3 .left), ne-eqb (actionOf (c .before .before .before .before .before .before .before .before .before .before .args .e .kind) (c .before .before .before .before .before .before .before .before .before .before .args .r .state)) 13 (c .before .before .before .if4 .left), ne-eqb (actionOf (c .before .before .before .before .before .before .before .before .before .before .args .e .kind) (c .before .before .before .before .before .before .before .before .before .before .args .r .state)) 8 (c .before .before .if5 .left), c .blank .ensures, c .before .last-word .ensures)
+returns-6 c =
+    let a = c .before .before .before .before .before .before .before .before .before .before .args in
+    let action = actionOf (a .e .kind) (a .r .state) in
+    rw (ne-eqb action 0 (c .before .before .before .before .before .before .if1 .left), ne-eqb action 11 (c .before .before .before .before .before .if2 .left), ne-eqb action 12 (c .before .before .before .before .if3 .left), ne-eqb action 13 (c .before .before .before .if4 .left), ne-eqb action 8 (c .before .before .if5 .left), c .blank .ensures, c .before .last-word .ensures)
 
 pub decide-spec : {M : Type 1} → statement M
 decide-spec =

@@ -20,10 +20,14 @@ silence-requires : tie.Need-silence-requires
 silence-requires c κs = search needs
 
 returns : tie.Need-returns
-returns c = rw (eq-eqb (c .before .before .before .before .before .args .e .kind) 10 (c .before .before .before .if1 .taken), eq-eqb (c .before .before .before .before .before .args .r .state) 2 (c .before .if2 .taken)) (c .message .ensures)
+returns c =
+    let a = c .before .before .before .before .before .args in
+    rw (eq-eqb (a .e .kind) 10 (c .before .before .before .if1 .taken), eq-eqb (a .r .state) 2 (c .before .if2 .taken)) (c .message .ensures)
 
 returns-2 : tie.Need-returns-2
-returns-2 c = rw (eq-eqb (c .before .before .before .before .before .args .e .kind) 10 (c .before .before .before .if1 .taken), ne-eqb (c .before .before .before .before .before .args .r .state) 2 (c .before .if2 .left)) (c .message2 .ensures)
+returns-2 c =
+    let a = c .before .before .before .before .before .args in
+    rw (eq-eqb (a .e .kind) 10 (c .before .before .before .if1 .taken), ne-eqb (a .r .state) 2 (c .before .if2 .left)) (c .message2 .ensures)
 
 returns-3 : tie.Need-returns-3
 returns-3 c = rw (ne-eqb (c .before .before .before .before .before .before .args .e .kind) 10 (c .before .before .before .before .if1 .left), c .before .if3 .taken) (c .message3 .ensures)

@@ -1,3 +1,4 @@
+-- Each test is that of `listsFit`.
 use borrow.Author.Needs.{needs}
 use Rattle.table.proofs.events.lists_fit.Statement.{statement}
 use Rattle.table.proofs.events.lists_fit.Tie as tie

@@ -1,3 +1,4 @@
+-- Field by field.
 use borrow.Author.Needs.{needs}
 use Rattle.table.proofs.events.refusal.Statement.{statement}
 use Rattle.table.proofs.events.refusal.Tie as tie

@@ -1,3 +1,4 @@
+-- Each test is that of `setFits`.
 use borrow.Author.Needs.{needs}
 use Rattle.table.proofs.events.set_fits.Statement.{statement}
 use Rattle.table.proofs.events.set_fits.Tie as tie

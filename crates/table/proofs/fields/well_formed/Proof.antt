@@ -9,7 +9,9 @@ cast-kind : tie.Need-cast-kind
 cast-kind c = search needs
 
 returns : tie.Need-returns
-returns c = rw (le-leb 1 (c .before .before .args .e .kind) (omega arith), lt-leb (c .before .before .args .e .kind) 15 (omega arith), ne-eqb (c .before .before .args .e .kind) 17 (λ e. omega arith))
+returns c =
+    let kind = c .before .before .args .e .kind in
+    rw (le-leb 1 kind (omega arith), lt-leb kind 15 (omega arith), ne-eqb kind 17 (λ e. omega arith))
 
 mul-uses : tie.Need-mul-uses
 mul-uses c = search needs
