@@ -30,6 +30,10 @@ setOf m = m .message .first
 abbrev pub outgoing : Direction → ℕ → Outgoing
 outgoing d i = out (d .source) (d .towards) i
 
+-- the record of a handover
+abbrev pub recordFor : Direction → ℕ → Outgoing
+recordFor d h = recordOf (d .numbers) (outgoing d) h
+
 abbrev pub reserved : Direction → ℕ → Incoming
 reserved d n = held (d .target) (d .back) n
 
@@ -128,7 +132,7 @@ module _ (s : Side) (d : Direction) where
   abbrev pub Ended : Type 0
   Ended =
       (h : ℕ) → d .handovers h .asked ≡ true
-      → (someOut (recordOf (d .numbers) (outgoing d) h) ≡ true) ⊎ ((z : ℕ) × (d .handovers h .endings ≡ z ∷ []) × (isEnding z ≡ true))
+      → (someOut (recordFor d h) ≡ true) ⊎ ((z : ℕ) × (d .handovers h .endings ≡ z ∷ []) × (isEnding z ≡ true))
 
   abbrev pub Moved : Type 0
   Moved = (h : ℕ) → (d .handovers h .endings ≡ 3 ∷ []) ↔ (d .handovers h .came ≡ true)
