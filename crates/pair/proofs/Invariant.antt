@@ -8,7 +8,7 @@ use mathlib.Core.Logic.{_⊎_, _↔_}
 use lib.Dec.{eqb}
 use Rattle.table.specs.Events.{message}
 use Rattle.table.specs.Views.{last, Outgoing, Prepared, Incoming, Held, someOut, out, held, isOtherEnding}
-use Rattle.pair.specs.World.{Side, Answered, Silent, Refused, Fixed, untold, Envelope, recordOf, All}
+use Rattle.pair.specs.World.{Side, Answered, Silent, Refused, Fixed, untold, Envelope, recordOf, All, limit}
 use Rattle.pair.proofs.Lists.{Pairs}
 use Rattle.pair.proofs.Ledger.{UsedOf, IssuedOf, LedgerOf}
 use Rattle.pair.proofs.Directions.{Direction}
@@ -54,7 +54,7 @@ pub record Requested (s : Side) (d : Direction) (m : Envelope) : Type 0 where
 pub record Replied (s : Side) (d : Direction) (m : Envelope) (answer : Answered) : Type 0 where
   pub named : 1 ≤ m .tag
   pub latest : d .numbers .issueOf (oldOf m) ≡ m .tag
-  pub stamped : m .stamp s < m .tag + 2000
+  pub stamped : m .stamp s < m .tag + limit
   pub answered : d .handovers (m .tag) .answer ≡ answer
 
 -- a release: its handover had its Old ID, the UE arrived, and the target had acknowledged its New ID; it says nothing else

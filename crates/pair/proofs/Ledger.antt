@@ -125,9 +125,9 @@ module _ {x : Station} {a : Answer} (n : Numbers) where
       let kept = searched (law .room) (laws .range .1) i (n .issueOf i) (n .issuedCount) (k .2) (k .0) (laws .range .0) (law .walk) (ledger i was) .1 (eqb-false i j t) in
       omega arith)))
 
-  -- One that was issued fewer than 4,000 issues ago is not the one that is issued.
+  -- One that was issued fewer than 4,033 issues ago is not the one that is issued.
   pub not-again : (new : Option ℕ) → ((j : ℕ) → new ≡ some j → Issues j x a) → Laws x → IssuedOf n → LedgerOf x n → (i : ℕ) → 1 ≤ n .issueOf i
-      → issuing new n .issuedCount < n .issueOf i + 4000 → issuing new n .issueOf i ≡ n .issueOf i
+      → issuing new n .issuedCount < n .issueOf i + 4033 → issuing new n .issueOf i ≡ n .issueOf i
   not-again none one laws known ledger i was recent = refl
   not-again (some j) one laws known ledger i was recent =
       by-cases (eqb i j)

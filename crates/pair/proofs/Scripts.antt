@@ -22,7 +22,7 @@ use Rattle.table.specs.Step.{stepOf}
 use Rattle.table.specs.Table.{findFrom, dueFrom, tally}
 use Rattle.table.specs.Views.{named, out, held, due}
 use Rattle.pair.proofs.Lists.{every, all-pass}
-use Rattle.pair.specs.World.{Side, A, B, other, Numbers, Envelope, World, act, asSent, Carries, request, plain, isMessage, own, take, All, nothing, more, Bounded, withQueue, Acts, Step, acts, loses, Run, next}
+use Rattle.pair.specs.World.{Side, A, B, other, Numbers, Envelope, World, act, asSent, Carries, request, plain, isMessage, own, take, All, nothing, more, Bounded, withQueue, Acts, Step, acts, loses, Run, next, limit}
 
 -- ---- what a side does
 
@@ -108,7 +108,7 @@ in-range e t =
 
 -- neither side has issued 2,000 numbers since a message was sent
 abbrev pub recent : Side → Numbers → List Envelope → Bool
-recent s n = every (λ m. ltb (n .issuedCount) (m .stamp s + 2000))
+recent s n = every (λ m. ltb (n .issuedCount) (m .stamp s + limit))
 
 abbrev pub toBoth : (Side → Bool) → Bool
 toBoth test = test A && test B
@@ -122,7 +122,7 @@ isBounded w = toBoth (λ r. toBoth (λ s. recent s (w .numbers s) (w .queue r)))
 
 pub bounded : (w : World) → isBounded w ≡ true → Bounded w
 bounded w t r s =
-    all-pass _ (λ m. ltb-true (w .numbers s .issuedCount) (m .stamp s + 2000)) (w .queue r)
+    all-pass _ (λ m. ltb-true (w .numbers s .issuedCount) (m .stamp s + limit)) (w .queue r)
     (at-side (λ x. recent x (w .numbers x) (w .queue r)) (at-side (λ y. toBoth (λ x. recent x (w .numbers x) (w .queue y))) t r) s)
 
 module _ (peer : Side → ℕ) where

@@ -14,7 +14,7 @@ use Rattle.records.specs.declared.Record.{Record}
 use Rattle.table.specs.declared.Answer.{Answer}
 use Rattle.table.specs.Views.{Outgoing, NotOut, Preparing, Prepared, someOut, sent, ending, to, issued, Ends, Source, asks, readies, keeps}
 use Rattle.table.proofs.Interface.{request-issues}
-use Rattle.pair.specs.World.{Side, Numbers, nextIssue, Fixed, Handover, untold, Envelope, recordOf, isPrepared, took, Recent}
+use Rattle.pair.specs.World.{Side, Numbers, nextIssue, Fixed, Handover, untold, Envelope, recordOf, isPrepared, took, limit, Recent}
 use Rattle.pair.proofs.Tests.{clash, refuted}
 use Rattle.pair.proofs.Directions.{Direction, sourceAfter, SourceStep}
 use Rattle.pair.proofs.Invariant.{oldOf, newOf, setOf, outgoing, recordFor, Invariant}
@@ -181,7 +181,7 @@ module _ {s : Side} {d : Direction} {e : Record} {a : Answer} {taken : Option En
     -- ---- numbers
 
     -- The Old ID of a request or an answer is not issued while it is under way.
-    pub under-way : (m : Envelope) → 1 ≤ m .tag → d .numbers .issueOf (oldOf m) ≡ m .tag → m .stamp s < m .tag + 2000 → Recent s (after .numbers) m
+    pub under-way : (m : Envelope) → 1 ≤ m .tag → d .numbers .issueOf (oldOf m) ≡ m .tag → m .stamp s < m .tag + limit → Recent s (after .numbers) m
         → after .numbers .issueOf (oldOf m) ≡ m .tag
     under-way m named latest stamped recent =
         not-again (d .numbers) (issued a) (x .step .issue) (x .laws) (inv .issued) (inv .ledger) (oldOf m) (omega arith) (omega arith) ∙ latest

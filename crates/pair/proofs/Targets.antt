@@ -15,7 +15,7 @@ use Rattle.table.proofs.Interface.{to-means}
 use Rattle.table.specs.declared.Answer.{Answer}
 use Rattle.table.specs.declared.Station.{Station}
 use Rattle.table.specs.Views.{Held, held, sent, to, Shrinks, Grants, Denies, Arrives, Target, grants, denies, arrives, holds}
-use Rattle.pair.specs.World.{Side, Answered, Silent, Envelope, took, tagOf, Recent}
+use Rattle.pair.specs.World.{Side, Answered, Silent, Envelope, took, tagOf, limit, Recent}
 use Rattle.pair.proofs.Tests.{clash}
 use Rattle.pair.proofs.Taking.{carries-request, taken-of, took-of, first-of}
 use Rattle.pair.proofs.Directions.{Direction, targetAfter, TargetStep}
@@ -56,7 +56,7 @@ pub record RequestOf (d : Direction) (old h : ℕ) : Type 0 where
   pub latest : d .numbers .issueOf old ≡ h
   pub counted : h ≤ d .numbers .issuedCount
   pub numbered : d .numbers .numberOf h ≡ old
-  pub recent : d .numbers .issuedCount < h + 2000
+  pub recent : d .numbers .issuedCount < h + limit
   pub unanswered : d .handovers h .answer ≡ Silent
 
 -- A record is held that was held before, for the same handover, or the one that is granted, for the handover whose request was taken.

@@ -218,8 +218,11 @@ pub data All {T : Type 0} (P : T → Type 0) : List T → Type 0 where
   more : {x : T} {xs : List T} → P x → All P xs → All P (x ∷ xs)
 
 -- "Neither issues 2,000 numbers" while a message is under way: each counted for itself, in every world, for every message still under way.
+abbrev pub limit : ℕ
+limit = 2000
+
 abbrev pub Recent : Side → Numbers → Envelope → Type 0
-Recent s n m = n .issuedCount < m .stamp s + 2000
+Recent s n m = n .issuedCount < m .stamp s + limit
 
 abbrev pub Bounded : World → Type 0
 Bounded w = (r s : Side) → All (Recent s (w .numbers s)) (w .queue r)
