@@ -117,7 +117,7 @@ module _ {x : Station} {a : Answer} (n : Numbers) where
       (λ t.
       let far : distance j i ≡ 4096 = rw (eqb-true i j t) self in
       let more' = rw (le-ltb (distance j j) (distance j i) (omega arith)) at more in
-      rw t (λ was. omega (arith, law .room)))
+      rw t (λ was. omega arith))
       (λ t. rw t (λ was.
       let k = known i was in
       let range = distance-range j i below (k .2) in

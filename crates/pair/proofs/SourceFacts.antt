@@ -198,7 +198,7 @@ module _ {s : Side} {d : Direction} {e : Record} {a : Answer} {taken : Option En
         refuted (someOut (recordFor d h))
         (λ t.
         let there = record-there (d .numbers) (outgoing d) h t in
-        omega (arith, own-record (d .numbers .numberOf h) (there .1) .0, there .0))
+        omega (arith, own-record (d .numbers .numberOf h) (there .1) .0))
 
     -- A handover of which anything is told was issued.
     told : (h : ℕ) → (d .handovers h ≡ untold → ⊥) → h ≤ d .numbers .issuedCount

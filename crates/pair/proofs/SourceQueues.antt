@@ -52,7 +52,7 @@ module _ {s : Side} {d : Direction} {e : Record} {a : Answer} {taken : Option En
   request-kept : (m : Envelope) → (kindOf m ≡ 1 → Requested s d m) → Recent s (after x .numbers) m → kindOf m ≡ 1 → Requested s (after x) m
   request-kept m was recent kind =
       let k = was kind in
-      record { named = k .named; latest = under-way x inv m (k .named) (k .latest) (omega (arith, k .stamped)) recent; stamped = k .stamped; unanswered = k .unanswered }
+      record { named = k .named; latest = under-way x inv m (k .named) (k .latest) (omega arith) recent; stamped = k .stamped; unanswered = k .unanswered }
 
   request-new : isMessage (d .towards) (sent a) ≡ true → sent a .kind ≡ 1 → Requested s (after x) posting
   request-new t kind =
@@ -79,7 +79,7 @@ module _ {s : Side} {d : Direction} {e : Record} {a : Answer} {taken : Option En
       older m was one new same =
           let k = was one in
           let first = request-belongs new in
-          omega (arith, inv .issued (oldOf m) (omega (arith, k .named, k .latest)) .0, k .latest)
+          omega (arith, inv .issued (oldOf m) (omega arith) .0)
 
   -- ---- answers and releases
 

@@ -64,7 +64,7 @@ ahead c =
     let script = start .args .script .now in
     let at = start .args .c .at in
     let rest = take (length script - at) (drop at script) in
-    omega (arith, c .size-of .ensures ∙ ap sizeOf (c .before .before .before .before .before .before .before .before .cut .ensures), within rest, length-take (length script - at) (drop at script), length-drop at script, start .pre .at)
+    omega (arith, c .size-of .ensures ∙ ap sizeOf (c .before .before .before .before .before .before .before .before .cut .ensures), within rest, length-take (length script - at) (drop at script), length-drop at script)
 
 -- the station that answers is reached
 reached : (c : tie.After-answered) → Reached (c .answered .result .station)

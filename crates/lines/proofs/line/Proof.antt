@@ -39,7 +39,7 @@ cell-requires : tie.Need-cell-requires
 cell-requires c κs =
     let start = c .before .before .before .before .before .before .before .before .before .before .before .before .before .before .before .before .before in
     let written = c .before .before .before .before .cells in
-    omega (arith, start .pre, written .ensures .0, written .kept .1 .0, spaced-most (firstEight (start .args .place) (start .args .o)))
+    omega (arith, spaced-most (firstEight (start .args .place) (start .args .o)))
 
 same-length : tie.Need-same-length
 same-length c = search needs
