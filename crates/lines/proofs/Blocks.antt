@@ -19,7 +19,6 @@ use Rattle.records.specs.declared.stream.Piece.the-variants.{Nothing, Short, Si
 use Rattle.table.specs.declared.Station.{Station}
 use Rattle.lines.specs.declared.Run.{Run}
 use Rattle.lines.specs.Lines.{sizeOf, isWhole, answerTo, after, lineFor, Work, beginning, goesOn, onward, workOn, workOf, linesIn, linesOf}
-use Rattle.records.proofs.Cutting as cutting
 use Rattle.lines.proofs.Going.{within, some-byte, some-left, bearers-part, goes, stops}
 
 -- ---- an event that is whole is the same whatever comes after
@@ -54,9 +53,8 @@ front bytes h = rw (lt-leb (length bytes) 0 (omega arith), le-leb 32 (length byt
 -- an event that is whole has a whole record
 has-record : (bytes : List ℕ) (left : ℕ) → isWhole false left (pieceAt bytes 0) ≡ true → 32 ≤ length bytes
 has-record bytes left t =
-    by-cases (leb (length bytes) 0)
-    (λ e. absurd (false≢true (rw e at t)))
-    (λ e. by-cases (leb 32 (length bytes)) (λ r. leb-true 32 (length bytes) r) (λ r. absurd (false≢true (rw (e, r) at t))))
+    by-cases (leb 32 (length bytes)) (leb-true 32 (length bytes))
+    (λ r. absurd (false≢true (rw (lt-leb (length bytes) 0 (some-left bytes false left t), r) at t)))
 
 same-request : (r : Record) (rest more : List ℕ) → 32 ≤ length rest → isWhole false (length rest) (pieceOf r rest 32) ≡ true → pieceOf r (rest ++ more) 32 ≡ pieceOf r rest 32
 same-request r rest more h t =

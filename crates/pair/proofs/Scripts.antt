@@ -21,7 +21,8 @@ use Rattle.table.specs.Numbers.{anyOf, issueFrom}
 use Rattle.table.specs.Step.{stepOf}
 use Rattle.table.specs.Table.{findFrom, dueFrom, tally}
 use Rattle.table.specs.Views.{named, out, held, due}
-use Rattle.pair.proofs.Lists.{every, all-pass}
+use Rattle.table.proofs.Deciding.{every}
+use Rattle.pair.proofs.Lists.{all-pass}
 use Rattle.pair.specs.World.{Side, A, B, other, Numbers, Envelope, World, act, asSent, Carries, request, plain, isMessage, own, take, All, nothing, more, Bounded, withQueue, Acts, Step, acts, loses, Run, next, limit}
 
 -- ---- what a side does
@@ -68,7 +69,7 @@ module _ (peer : Side → ℕ) where
 
 -- numbers with what each is below: whether they are, and what follows where each is
 abbrev pub below : List (ℕ × ℕ) → Bool
-below = every (λ x. ltb (x .0) (x .1))
+below = every (λ i x. ltb (x .0) (x .1))
 
 abbrev pub Given : Type 0 → List (ℕ × ℕ) → Type 0
 Given G [] = G
@@ -86,7 +87,7 @@ fields e =
 
 pub in-range : (e : Record) → below (fields e) ≡ true → InRange e
 in-range e t =
-    give (all-pass _ (λ x. ltb-true (x .0) (x .1)) (fields e) t)
+    give (all-pass _ (λ i x. ltb-true (x .0) (x .1)) (fields e) t)
     (λ a b c d f g h i j k l m n o p.
     record {
       kind = a;
@@ -108,7 +109,7 @@ in-range e t =
 
 -- neither side has issued 2,000 numbers since a message was sent
 abbrev pub recent : Side → Numbers → List Envelope → Bool
-recent s n = every (λ m. ltb (n .issuedCount) (m .stamp s + limit))
+recent s n = every (λ i m. ltb (n .issuedCount) (m .stamp s + limit))
 
 abbrev pub toBoth : (Side → Bool) → Bool
 toBoth test = test A && test B
@@ -122,7 +123,7 @@ isBounded w = toBoth (λ r. toBoth (λ s. recent s (w .numbers s) (w .queue r)))
 
 pub bounded : (w : World) → isBounded w ≡ true → Bounded w
 bounded w t r s =
-    all-pass _ (λ m. ltb-true (w .numbers s .issuedCount) (m .stamp s + limit)) (w .queue r)
+    all-pass _ (λ i m. ltb-true (w .numbers s .issuedCount) (m .stamp s + limit)) (w .queue r)
     (at-side (λ x. recent x (w .numbers x) (w .queue r)) (at-side (λ y. toBoth (λ x. recent x (w .numbers x) (w .queue y))) t r) s)
 
 module _ (peer : Side → ℕ) where

@@ -4,11 +4,13 @@ use mathlib.Core.Path.{_≡_, refl}
 use mathlib.Core.Bool.{Bool, true, false, not, _&&_, false≢true}
 use mathlib.Core.List.{List, [], _∷_}
 use mathlib.Core.Option.{none, some}
-use borrow.Author.Tests.{eqb-true, leb-true, not-true}
+use borrow.Author.Tests.{eqb-true, leb-true, le-leb, not-true}
 use native.Mathlib.Omega.{arith}
 use lib.Dec.{leb, eqb}
+use lib.ListN.{getD}
 use Rattle.laws.proofs.Tests.{by-cases, both-true}
 use Rattle.records.specs.declared.Record.{Record}
+use Rattle.table.proofs.Deciding.{every, every-at}
 use Rattle.table.specs.Cases as cases
 use Rattle.table.specs.Numbers.{blank, ownIs}
 use Rattle.table.specs.Step.{stepOf}
@@ -18,9 +20,8 @@ use Rattle.table.specs.declared.Answer.{Answer}
 use Rattle.table.specs.declared.Entry.{Entry}
 use Rattle.table.specs.declared.Station.{Station}
 use Rattle.pair.proofs.Tests.{clash}
-use Rattle.pair.proofs.Lists.{every, all-pass, all-at}
 use Rattle.pair.specs.Theorem.{Past, Settled, Still, here, onward, Nine, Settles}
-use Rattle.pair.specs.World.{Side, A, B, Envelope, World, All, acts, Run, next}
+use Rattle.pair.specs.World.{Side, A, B, Envelope, World, acts, Run, next}
 use Rattle.pair.proofs.Scripts.{does, after, played, may, did, toBoth, at-side}
 
 -- ---- nothing is under way, and no deadline is past the last time
@@ -42,20 +43,22 @@ empty (m ∷ ms) t = absurd (false≢true t)
 
 -- whether every deadline is at most a time
 abbrev pub allBy : ℕ → List Entry → Bool
-allBy time = every (λ r. leb (r .deadline) time)
+allBy time = every (λ i r. leb (r .deadline) time)
 
 -- then so is that of the record found, whichever it is
-by-found : (time : ℕ) (s : Station) → All (λ r. r .deadline ≤ time) (s .entries) → (test : Entry → Bool) (i : ℕ) (rs : List Entry)
+by-found : (time : ℕ) (s : Station) → allBy time (s .entries) ≡ true → (test : Entry → Bool) (i : ℕ) (rs : List Entry)
     → recordAt (findFrom test i rs) s .deadline ≤ time
 unfolding findFrom
-by-found time s all test i [] = omega arith
-by-found time s all test i (r ∷ rs) = by-cases (test r) (λ h. rw h (all-at blank (omega arith) all i)) (λ h. rw h (by-found time s all test (i + 1) rs))
+by-found time s t test i [] = omega arith
+by-found time s t test i (r ∷ rs) =
+    by-cases (test r)
+    (λ h. rw h (leb-true (getD (s .entries) i blank .deadline) time (every-at (λ j x. leb (x .deadline) time) (s .entries) blank i t (λ j. le-leb 0 time (omega arith)))))
+    (λ h. rw h (by-found time s t test (i + 1) rs))
 
 due-by : (time : ℕ) (s : Station) → allBy time (s .entries) ≡ true → (p i d : ℕ) → due s p i ≡ some d → d ≤ time
 unfolding due named
 due-by time s t p i d timed =
-    go (recordAt (find (ownIs i) s) s) timed
-    (by-found time s (all-pass _ (λ r. leb-true (r .deadline) time) (s .entries) t) (ownIs i) 0 (s .entries))
+    go (recordAt (find (ownIs i) s) s) timed (by-found time s t (ownIs i) 0 (s .entries))
   where
     go : (r : Entry) → dueOf p r ≡ some d → r .deadline ≤ time → d ≤ time
     go r timed by =

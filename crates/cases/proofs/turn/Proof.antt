@@ -40,7 +40,9 @@ enum-known-read : tie.Need-enum-known-read
 enum-known-read c = search needs
 
 within : (c : tie.After-known-told) → c .before .before .before .before .before .args .c .at + 32 ≤ length (c .before .before .before .before .before .args .script .now)
-within c = fits (c .before .before .before .before .before .args .script .now) (c .before .before .before .before .before .args .c .at) _ _ (c .before .before .before .read .ensures) (c .before .read2 .given .1)
+within c =
+    let start = c .before .before .before .before .before .args in
+    fits (start .script .now) (start .c .at) _ _ (c .before .before .before .read .ensures) (c .before .read2 .given .1)
 
 add-next : tie.Need-add-next
 add-next c = omega (arith, within c)
