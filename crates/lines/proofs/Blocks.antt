@@ -31,7 +31,8 @@ same-first (x ∷ xs) more h =
     rw (le-leb 32 (length (x ∷ xs)) h, le-leb 32 (length (x ∷ xs ++ more)) longer)
 
 -- so are all that a request takes, if it takes its count or a whole record stands after them
-same-bearers : (most : ℕ) (xs more : List ℕ) → (bearersIn most xs ≡ most) ⊎ (32 * bearersIn most xs + 32 ≤ length xs) → bearersIn most (xs ++ more) ≡ bearersIn most xs
+same-bearers : (most : ℕ) (xs more : List ℕ) → (bearersIn most xs ≡ most) ⊎ (32 * bearersIn most xs + 32 ≤ length xs)
+    → bearersIn most (xs ++ more) ≡ bearersIn most xs
 unfolding bearersIn
 same-bearers zero xs more h = refl
 same-bearers (suc most) xs more h =
@@ -56,7 +57,8 @@ has-record bytes left t =
     by-cases (leb 32 (length bytes)) (leb-true 32 (length bytes))
     (λ r. absurd (false≢true (rw (lt-leb (length bytes) 0 (some-left bytes false left t), r) at t)))
 
-same-request : (r : Record) (rest more : List ℕ) → 32 ≤ length rest → isWhole false (length rest) (pieceOf r rest 32) ≡ true → pieceOf r (rest ++ more) 32 ≡ pieceOf r rest 32
+same-request : (r : Record) (rest more : List ℕ) → 32 ≤ length rest → isWhole false (length rest) (pieceOf r rest 32) ≡ true
+    → pieceOf r (rest ++ more) 32 ≡ pieceOf r rest 32
 same-request r rest more h t =
     by-cases (takesBearers r)
     (λ e.
@@ -71,7 +73,8 @@ same-request r rest more h t =
     (λ e. rw e)
 
 -- An event that is whole is the same with more behind it; at the end nothing is.
-pub same-piece : (ended : Bool) (rest more : List ℕ) → (ended ≡ true → more ≡ []) → isWhole ended (length rest) (pieceAt rest 0) ≡ true → pieceAt (rest ++ more) 0 ≡ pieceAt rest 0
+pub same-piece : (ended : Bool) (rest more : List ℕ) → (ended ≡ true → more ≡ []) → isWhole ended (length rest) (pieceAt rest 0) ≡ true
+    → pieceAt (rest ++ more) 0 ≡ pieceAt rest 0
 same-piece true rest more none t = ap (λ (l : List ℕ). pieceAt l 0) (ap (λ (l : List ℕ). rest ++ l) (none refl) ∙ append-nil rest)
 same-piece false rest more none t =
     let long : 32 ≤ length rest = has-record rest (length rest) t in
@@ -92,7 +95,8 @@ same-by room s rest more (Request r next) h =
     let long : 32 ≤ length rest = omega arith in
     rw (drop-append-le 32 rest more long, take-append-le (next - 32) (drop 32 rest) more (omega (arith, length-drop 32 rest)))
 
-same-answer : (room : ℕ) (s : Station) (rest more : List ℕ) → pieceAt (rest ++ more) 0 ≡ pieceAt rest 0 → answerTo room s (rest ++ more) (pieceAt (rest ++ more) 0) ≡ answerTo room s rest (pieceAt rest 0)
+same-answer : (room : ℕ) (s : Station) (rest more : List ℕ) → pieceAt (rest ++ more) 0 ≡ pieceAt rest 0
+    → answerTo room s (rest ++ more) (pieceAt (rest ++ more) 0) ≡ answerTo room s rest (pieceAt rest 0)
 same-answer room s rest more e = ap (answerTo room s (rest ++ more)) e ∙ same-by room s rest more (pieceAt rest 0) refl
 
 -- ---- the lines of a stream, event by event
@@ -116,7 +120,8 @@ enough (suc k) (suc j) run stream h i =
     ∙ sym (on-false _ _ _ t))
 
 -- the first event of a stream, and the others
-first-event : (run : Run) (stream : List ℕ) → 0 < length stream → linesOf run stream ≡ lineFor run stream ++ linesOf (after run stream) (drop (sizeOf (pieceAt stream 0)) stream)
+first-event : (run : Run) (stream : List ℕ) → 0 < length stream
+    → linesOf run stream ≡ lineFor run stream ++ linesOf (after run stream) (drop (sizeOf (pieceAt stream 0)) stream)
 unfolding linesIn
 first-event run stream h =
     let most = length stream - 1 in
@@ -165,5 +170,6 @@ module _ (ended : Bool) (room : ℕ) (bytes more : List ℕ) (none : ended ≡ t
       (λ t. ap total (stops (suc most) ended room bytes w t))
 
   -- What a run writes of a block, and then of what is left of it with all that comes after, is what it writes of the whole.
-  pub carried-on : (run : Run) → workOf ended room bytes run .text ++ linesOf (workOf ended room bytes run .run) (drop (workOf ended room bytes run .taken) bytes ++ more) ≡ linesOf run (bytes ++ more)
+  pub carried-on : (run : Run)
+      → workOf ended room bytes run .text ++ linesOf (workOf ended room bytes run .run) (drop (workOf ended room bytes run .taken) bytes ++ more) ≡ linesOf run (bytes ++ more)
   carried-on run = all (length bytes) (beginning run)

@@ -31,7 +31,8 @@ at-front : (P : Piece → Type 0) (rest : List ℕ) → P Nothing → P (Short (
     → P (Request (first rest) (next rest)) → P (pieceAt rest 0)
 at-front P rest nothing short single request = by (leb (length rest) 0) (roomAt rest 0) (takesBearers (first rest))
   where
-    by : (ended room takes : Bool) → P (cond ended Nothing (cond room (cond takes (Request (first rest) (next rest)) (Single (first rest) 32)) (Short (length rest))))
+    by : (ended room takes : Bool)
+        → P (cond ended Nothing (cond room (cond takes (Request (first rest) (next rest)) (Single (first rest) 32)) (Short (length rest))))
     by true room takes = nothing
     by false false takes = short
     by false true false = single
@@ -78,7 +79,8 @@ still-reached room s rest h k =
     (stepped h (first rest) range (take (next rest - 32) (drop 32 rest)) room)
 
 -- One event more, or none.
-pub goes : (most : ℕ) (ended : Bool) (room : ℕ) (bytes : List ℕ) (w : Work) → goesOn ended room bytes w ≡ true → workOn (suc most) ended room bytes w ≡ workOn most ended room bytes (onward bytes w)
+pub goes : (most : ℕ) (ended : Bool) (room : ℕ) (bytes : List ℕ) (w : Work) → goesOn ended room bytes w ≡ true
+    → workOn (suc most) ended room bytes w ≡ workOn most ended room bytes (onward bytes w)
 unfolding workOn
 goes most ended room bytes w t = rw t
 

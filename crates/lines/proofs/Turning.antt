@@ -105,5 +105,9 @@ module _ {bytes : List ℕ} {ended : Bool} {buffer : List ℕ} {run : Run} {out 
             size = written .0 ∙ zero-add _;
             within-buffer = omega (arith, line-most place (a .outcome), has-room, same-length);
             wrote = written .1;
-            goes-on = ap (workOn most ended (length buffer) bytes) moved ∙ sym (goes most ended (length buffer) bytes w (sym tested ∙ t)) ∙ sym (ap (λ (k : ℕ). workOn k ended (length buffer) bytes w) further) ∙ head .goes-on;
+            goes-on =
+                ap (workOn most ended (length buffer) bytes) moved
+                ∙ sym (goes most ended (length buffer) bytes w (sym tested ∙ t))
+                ∙ sym (ap (λ (k : ℕ). workOn k ended (length buffer) bytes w) further)
+                ∙ head .goes-on;
           }

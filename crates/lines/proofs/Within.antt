@@ -48,7 +48,8 @@ module _ (ended : Bool) (room : ℕ) (bytes : List ℕ) (known : AreBytes bytes)
   work-within run h = all (length bytes) (beginning run) (record { reached = h; taken = omega arith; written = omega arith })
 
 -- The same of what a run answers.
-pub progress-within : (ended : Bool) (out bytes : List ℕ) → AreBytes bytes → (run : Run) → Reached (run .station) → (p : Progress) → p ≡ progress (workOf ended (length out) bytes run) → Reached (p .run .station) × (p .taken ≤ length bytes) × (p .written ≤ length out)
+pub progress-within : (ended : Bool) (out bytes : List ℕ) → AreBytes bytes → (run : Run) → Reached (run .station) → (p : Progress)
+    → p ≡ progress (workOf ended (length out) bytes run) → Reached (p .run .station) × (p .taken ≤ length bytes) × (p .written ≤ length out)
 progress-within ended out bytes known run h p e =
     let w = work-within ended (length out) bytes known run h in
     subst (λ (q : Progress). Reached (q .run .station) × (q .taken ≤ length bytes) × (q .written ≤ length out)) (sym e) (w .reached, w .taken, w .written)

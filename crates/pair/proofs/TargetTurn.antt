@@ -207,7 +207,8 @@ module _ {s : Side} {d : Direction} {e : Record} {a : Answer} {taken : Option En
   order-kept : Order s after
   order-kept = pairs-posted (d .back) posting (d .answers) (i .order) (λ posted. all-map (λ m. behind posted m) (i .held-acknowledge))
     where
-      behind : isMessage (d .back) (sent a) ≡ true → (m : Envelope) → (kindOf m ≡ 2 → (set : ℕ) → reserved d (newOf m) ≡ Held (oldOf m) set → m .tag ≡ d .fixedFor (newOf m))
+      behind : isMessage (d .back) (sent a) ≡ true → (m : Envelope)
+          → (kindOf m ≡ 2 → (set : ℕ) → reserved d (newOf m) ≡ Held (oldOf m) set → m .tag ≡ d .fixedFor (newOf m))
           → kindOf m ≡ 2 → kindOf posting ≡ 5 → oldOf m ≡ oldOf posting → newOf m ≡ newOf posting → m .tag ≡ posting .tag
       behind posted m of two five old number =
           let r = release-for posted five in
@@ -227,7 +228,8 @@ module _ {s : Side} {d : Direction} {e : Record} {a : Answer} {taken : Option En
   held-kept : HeldFixed s after
   held-kept n old set now = of (held-after x i n old set now)
     where
-      of : HeldAfter d a (tagOf taken) (after .fixedFor n) n old set → (d .numbers .numberOf (after .fixedFor n) ≡ old) × (after .handovers (after .fixedFor n) .answer ≡ Fixed n set)
+      of : HeldAfter d a (tagOf taken) (after .fixedFor n) n old set
+          → (d .numbers .numberOf (after .fixedFor n) ≡ old) × (after .handovers (after .fixedFor n) .answer ≡ Fixed n set)
       of (kept was same) =
           let for = i .held n old set was in
           (ap (d .numbers .numberOf) same ∙ for .0, ap (λ h. after .handovers h .answer) same ∙ fixed-stays (d .fixedFor n) n set (for .1))
@@ -257,7 +259,8 @@ module _ {s : Side} {d : Direction} {e : Record} {a : Answer} {taken : Option En
       (λ posted two set now.
       acknowledge-belongs two ∙ sym (rw (posted-to (d .back) a 2 posted two, eq-eqb (newOf posting) (newOf posting) refl)))
     where
-      standing : (m : Envelope) → Replied s d m (Fixed (newOf m) (setOf m)) → ((set : ℕ) → reserved d (newOf m) ≡ Held (oldOf m) set → m .tag ≡ d .fixedFor (newOf m))
+      standing : (m : Envelope) → Replied s d m (Fixed (newOf m) (setOf m))
+          → ((set : ℕ) → reserved d (newOf m) ≡ Held (oldOf m) set → m .tag ≡ d .fixedFor (newOf m))
           → (set : ℕ) → HeldAfter d a (tagOf taken) (after .fixedFor (newOf m)) (newOf m) (oldOf m) set → m .tag ≡ after .fixedFor (newOf m)
       standing m replied of set (kept was same) = of set was ∙ sym same
       standing m replied of set (made t number id fixed same) =

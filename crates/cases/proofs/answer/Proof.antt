@@ -65,12 +65,14 @@ abbrev rest : tie.After-answered → List ℕ
 rest c = let script = start c .args .script .now in take (length script - start c .args .c .at) (drop (start c .args .c .at) script)
 
 -- the event lies within the script
-ahead : (c : tie.After-size-of) → start (c .before .before .before .before .before) .args .c .at + c .size-of .result ≤ length (start (c .before .before .before .before .before) .args .script .now)
+ahead : (c : tie.After-size-of)
+    → start (c .before .before .before .before .before) .args .c .at + c .size-of .result ≤ length (start (c .before .before .before .before .before) .args .script .now)
 ahead c =
-    let script = start (c .before .before .before .before .before) .args .script .now in
-    let at = start (c .before .before .before .before .before) .args .c .at in
-    let cut = c .before .before .before .before .before .before .before .before .cut in
-    omega (arith, c .size-of .ensures ∙ ap sizeOf (cut .ensures), within (rest (c .before .before .before .before .before)), length-take (length script - at) (drop at script), length-drop at script)
+    let answered = c .before .before .before .before .before in
+    let script = start answered .args .script .now in
+    let at = start answered .args .c .at in
+    let size = c .size-of .ensures ∙ ap sizeOf (answered .before .before .before .cut .ensures) in
+    omega (arith, start answered .pre .at, within (rest answered), length-take (length script - at) (drop at script), length-drop at script)
 
 -- the station that answers is reached
 reached : (c : tie.After-answered) → Reached (c .answered .result .station)

@@ -61,7 +61,8 @@ request-requires : tie.Need-request-requires
 request-requires c κs = search needs
 
 -- the part between a record and the next event, also where that is no place of the bytes
-between : (bytes : List ℕ) (next from end to : ℕ) → from ≡ min 32 (length bytes) → end ≡ min next (length bytes) → to ≡ max from end → take (to - from) (drop from bytes) ≡ take (next - 32) (drop 32 bytes)
+between : (bytes : List ℕ) (next from end to : ℕ) → from ≡ min 32 (length bytes) → end ≡ min next (length bytes) → to ≡ max from end
+    → take (to - from) (drop from bytes) ≡ take (next - 32) (drop 32 bytes)
 between bytes next from end to f e t =
     by-cases (leb 32 (length bytes))
     (λ u.
@@ -94,9 +95,15 @@ same-length c = search needs
 
 returns-4 : tie.Need-returns-4
 returns-4 c =
+    let request = c .before .before .request in
     let piece = c .before .before .before .before .before .before .before .before .before .piece2 .given in
-    let same = between (c .before .before .before .before .before .before .before .before .before .before .before .before .before .args .bytes .now) (piece .0 .1 .0) _ _ _ (c .before .before .before .before .before .before .before .least .ensures) (c .before .before .before .before .before .before .least2 .ensures) (c .before .before .before .before .before .greatest .ensures) in
-    rw (piece .1) (rw same at (c .before .before .request .ensures .0), rw same at (c .before .before .request .ensures .1))
+    let same =
+    between (c .before .before .before .before .before .before .before .before .before .before .before .before .before .args .bytes .now) (piece .0 .1 .0) _ _ _
+    (c .before .before .before .before .before .before .before .least .ensures)
+    (c .before .before .before .before .before .before .least2 .ensures)
+    (c .before .before .before .before .before .greatest .ensures)
+    in
+    rw (piece .1) (rw same at (request .ensures .0), rw same at (request .ensures .1))
 
 pub answered-spec : {M : Type 1} → statement M
 answered-spec =

@@ -76,7 +76,8 @@ size-of-requires : tie.Need-size-of-requires Inv-loop μ-loop
 size-of-requires c κs = tt
 
 -- the event lies within the block
-ahead : (c : tie.After-size-of Inv-loop μ-loop) → turn c .before .before .loop .taken + c .size-of .result ≤ length (turn c .before .before .before .before .before .before .before .args .bytes .now)
+ahead : (c : tie.After-size-of Inv-loop μ-loop)
+    → turn c .before .before .loop .taken + c .size-of .result ≤ length (turn c .before .before .before .before .before .before .before .args .bytes .now)
 ahead c = let head = turn c .before .before .loop .inv .0 in omega (arith, size-left head)
 
 add-taken : tie.Need-add-taken Inv-loop μ-loop

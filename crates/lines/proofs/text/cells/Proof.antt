@@ -15,7 +15,11 @@ use Rattle.lines.proofs.text.cells.Tie as tie
 -- so far: each number took at most 21 bytes
 abbrev Inv-loop : tie.InvT-loop
 Inv-loop out₀ at numbers place₀ i₀ out place i =
-    (i ≤ 8) × (length out ≡ length out₀) × (place ≤ at + 21 * i) × (place + length (spaced (drop i numbers)) ≡ at + length (spaced numbers)) × (sets out place (spaced (drop i numbers)) ≡ sets out₀ at (spaced numbers))
+    (i ≤ 8)
+    × (length out ≡ length out₀)
+    × (place ≤ at + 21 * i)
+    × (place + length (spaced (drop i numbers)) ≡ at + length (spaced numbers))
+    × (sets out place (spaced (drop i numbers)) ≡ sets out₀ at (spaced numbers))
 
 abbrev μ-loop : tie.MeasureT-loop
 μ-loop out₀ at numbers place₀ i₀ out place i = 8 - i
@@ -44,7 +48,8 @@ unfolding spaced
 next numbers i h = rw (drop-cons numbers i 0 h, add-one i)
 
 -- is written where the last one ended
-onward : (numbers out left : List ℕ) (i at end : ℕ) → i < length numbers → end ≡ at + length (cell (getD numbers i 0) 32) → left ≡ sets out at (cell (getD numbers i 0) 32)
+onward : (numbers out left : List ℕ) (i at end : ℕ) → i < length numbers → end ≡ at + length (cell (getD numbers i 0) 32)
+    → left ≡ sets out at (cell (getD numbers i 0) 32)
     → (end + length (spaced (drop (i + 1) numbers)) ≡ at + length (spaced (drop i numbers))) × (sets left end (spaced (drop (i + 1) numbers)) ≡ sets out at (spaced (drop i numbers)))
 onward numbers out left i at end h e f =
     rw (next numbers i h) (joined out left _ at end _ (cell (getD numbers i 0) 32) (spaced (drop (i + 1) numbers)) e f refl refl)
