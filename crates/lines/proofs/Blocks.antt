@@ -12,15 +12,14 @@ use lib.ListN.{length, take, drop, length-append, length-drop}
 use lib.Seq.{take-append-le, drop-append-le, drop-drop}
 use Rattle.laws.proofs.Tests.{by-cases, both-true, on-false}
 use Rattle.records.specs.Record.{recordOf}
-use Rattle.records.specs.Stream.{pieceAt, pieceOf, nextOf, takesBearers, bearerFirst, bearersIn}
+use Rattle.records.specs.Stream.{pieceAt, pieceOf, takesBearers, bearerFirst, bearersIn}
 use Rattle.records.specs.declared.Record.{Record}
 use Rattle.records.specs.declared.stream.Piece.{Piece}
 use Rattle.records.specs.declared.stream.Piece.the-variants.{Nothing, Short, Single, Request}
 use Rattle.table.specs.declared.Station.{Station}
 use Rattle.lines.specs.declared.Run.{Run}
-use Rattle.lines.specs.Lines.{sizeOf, isWhole, answerTo, after, lineFor, Work, goesOn, onward, workOn, workOf, linesIn, linesOf}
-use Rattle.records.proofs.Cutting as cutting
-use Rattle.lines.proofs.Going.{within, some-byte, bearers-part, goes, stops}
+use Rattle.lines.specs.Lines.{sizeOf, isWhole, answerTo, after, lineFor, Work, beginning, goesOn, onward, workOn, workOf, linesIn, linesOf}
+use Rattle.lines.proofs.Going.{within, some-byte, some-left, bearers-part, goes, stops}
 
 -- ---- an event that is whole is the same whatever comes after
 
@@ -28,11 +27,12 @@ use Rattle.lines.proofs.Going.{within, some-byte, bearers-part, goes, s
 same-first : (xs more : List ℕ) → 32 ≤ length xs → bearerFirst (xs ++ more) ≡ bearerFirst xs
 same-first [] more h = absurd (omega arith)
 same-first (x ∷ xs) more h =
-    let longer : 32 ≤ length (x ∷ xs ++ more) = omega (arith, h, length-append xs more) in
+    let longer : 32 ≤ length (x ∷ xs ++ more) = omega (arith, length-append xs more) in
     rw (le-leb 32 (length (x ∷ xs)) h, le-leb 32 (length (x ∷ xs ++ more)) longer)
 
 -- so are all that a request takes, if it takes its count or a whole record stands after them
-same-bearers : (most : ℕ) (xs more : List ℕ) → (bearersIn most xs ≡ most) ⊎ (32 * bearersIn most xs + 32 ≤ length xs) → bearersIn most (xs ++ more) ≡ bearersIn most xs
+same-bearers : (most : ℕ) (xs more : List ℕ) → (bearersIn most xs ≡ most) ⊎ (32 * bearersIn most xs + 32 ≤ length xs)
+    → bearersIn most (xs ++ more) ≡ bearersIn most xs
 unfolding bearersIn
 same-bearers zero xs more h = refl
 same-bearers (suc most) xs more h =
@@ -54,11 +54,11 @@ front bytes h = rw (lt-leb (length bytes) 0 (omega arith), le-leb 32 (length byt
 -- an event that is whole has a whole record
 has-record : (bytes : List ℕ) (left : ℕ) → isWhole false left (pieceAt bytes 0) ≡ true → 32 ≤ length bytes
 has-record bytes left t =
-    by-cases (leb (length bytes) 0)
-    (λ e. absurd (false≢true (rw e at t)))
-    (λ e. by-cases (leb 32 (length bytes)) (λ r. leb-true 32 (length bytes) r) (λ r. absurd (false≢true (rw (e, r) at t))))
+    by-cases (leb 32 (length bytes)) (leb-true 32 (length bytes))
+    (λ r. absurd (false≢true (rw (lt-leb (length bytes) 0 (some-left bytes false left t), r) at t)))
 
-same-request : (r : Record) (rest more : List ℕ) → 32 ≤ length rest → isWhole false (length rest) (pieceOf r rest 32) ≡ true → pieceOf r (rest ++ more) 32 ≡ pieceOf r rest 32
+same-request : (r : Record) (rest more : List ℕ) → 32 ≤ length rest → isWhole false (length rest) (pieceOf r rest 32) ≡ true
+    → pieceOf r (rest ++ more) 32 ≡ pieceOf r rest 32
 same-request r rest more h t =
     by-cases (takesBearers r)
     (λ e.
@@ -73,13 +73,14 @@ same-request r rest more h t =
     (λ e. rw e)
 
 -- An event that is whole is the same with more behind it; at the end nothing is.
-pub same-piece : (ended : Bool) (rest more : List ℕ) → (ended ≡ true → more ≡ []) → isWhole ended (length rest) (pieceAt rest 0) ≡ true → pieceAt (rest ++ more) 0 ≡ pieceAt rest 0
+pub same-piece : (ended : Bool) (rest more : List ℕ) → (ended ≡ true → more ≡ []) → isWhole ended (length rest) (pieceAt rest 0) ≡ true
+    → pieceAt (rest ++ more) 0 ≡ pieceAt rest 0
 same-piece true rest more none t = ap (λ (l : List ℕ). pieceAt l 0) (ap (λ (l : List ℕ). rest ++ l) (none refl) ∙ append-nil rest)
 same-piece false rest more none t =
     let long : 32 ≤ length rest = has-record rest (length rest) t in
     let r = recordOf (take 32 rest) in
     let first : pieceOf (recordOf (take 32 (rest ++ more))) (rest ++ more) 32 ≡ pieceOf r (rest ++ more) 32 = ap (λ (l : List ℕ). pieceOf (recordOf l) (rest ++ more) 32) (take-append-le 32 rest more long) in
-    front (rest ++ more) (omega (arith, length-append rest more, long))
+    front (rest ++ more) (omega (arith, length-append rest more))
     ∙ first
     ∙ same-request r rest more long (ap (isWhole false (length rest)) (sym (front rest long)) ∙ t)
     ∙ sym (front rest long)
@@ -90,21 +91,15 @@ same-by room s rest more Nothing h = refl
 same-by room s rest more (Short next) h = refl
 same-by room s rest more (Single r next) h = refl
 same-by room s rest more (Request r next) h =
-    let part = bearers-part rest (Request r next) r next h refl in
-    let long : 32 ≤ length rest = omega (arith, part .0, part .1) in
-    rw (drop-append-le 32 rest more long, take-append-le (next - 32) (drop 32 rest) more (omega (arith, length-drop 32 rest, part .1)))
+    let part = bearers-part rest h in
+    let long : 32 ≤ length rest = omega arith in
+    rw (drop-append-le 32 rest more long, take-append-le (next - 32) (drop 32 rest) more (omega (arith, length-drop 32 rest)))
 
-same-answer : (room : ℕ) (s : Station) (rest more : List ℕ) → pieceAt (rest ++ more) 0 ≡ pieceAt rest 0 → answerTo room s (rest ++ more) (pieceAt (rest ++ more) 0) ≡ answerTo room s rest (pieceAt rest 0)
+same-answer : (room : ℕ) (s : Station) (rest more : List ℕ) → pieceAt (rest ++ more) 0 ≡ pieceAt rest 0
+    → answerTo room s (rest ++ more) (pieceAt (rest ++ more) 0) ≡ answerTo room s rest (pieceAt rest 0)
 same-answer room s rest more e = ap (answerTo room s (rest ++ more)) e ∙ same-by room s rest more (pieceAt rest 0) refl
 
 -- ---- the lines of a stream, event by event
-
--- where a byte is left an event has one
-taken-by : (rest : List ℕ) (p : Piece) → 0 < length rest → cutting.Onward rest 0 (nextOf p) → 0 < sizeOf p
-taken-by rest Nothing h k = absurd (omega (arith, h, k))
-taken-by rest (Short next) h k = k .0
-taken-by rest (Single r next) h k = k .0
-taken-by rest (Request r next) h k = k .0
 
 -- as many events as bytes are enough
 enough : (k j : ℕ) (run : Run) (stream : List ℕ) → length stream ≤ k → length stream ≤ j → linesIn k run stream ≡ linesIn j run stream
@@ -117,25 +112,26 @@ enough (suc k) (suc j) run stream h i =
     (λ t. rw t)
     (λ t.
     let size = sizeOf (pieceAt stream 0) in
-    let some : 0 < size = taken-by stream (pieceAt stream 0) (leb-false (length stream) 0 t) (cutting.onward stream 0) in
+    let some : 0 < size = some-byte stream (leb-false (length stream) 0 t) in
     let rest = drop size stream in
     let fewer : length rest ≡ length stream - size = length-drop size stream in
     on-false _ _ _ t
-    ∙ ap (λ (l : List ℕ). lineFor run stream ++ l) (enough k j (after run stream) rest (omega (arith, fewer, some, h)) (omega (arith, fewer, some, i)))
+    ∙ ap (λ (l : List ℕ). lineFor run stream ++ l) (enough k j (after run stream) rest (omega arith) (omega arith))
     ∙ sym (on-false _ _ _ t))
 
 -- the first event of a stream, and the others
-first-event : (run : Run) (stream : List ℕ) → 0 < length stream → linesOf run stream ≡ lineFor run stream ++ linesOf (after run stream) (drop (sizeOf (pieceAt stream 0)) stream)
+first-event : (run : Run) (stream : List ℕ) → 0 < length stream
+    → linesOf run stream ≡ lineFor run stream ++ linesOf (after run stream) (drop (sizeOf (pieceAt stream 0)) stream)
 unfolding linesIn
 first-event run stream h =
     let most = length stream - 1 in
     let size = sizeOf (pieceAt stream 0) in
     let rest = drop size stream in
-    let some : 0 < size = taken-by stream (pieceAt stream 0) h (cutting.onward stream 0) in
+    let some : 0 < size = some-byte stream h in
     let long : length stream ≡ suc most = omega arith in
     ap (λ (k : ℕ). linesIn k run stream) long
     ∙ on-false _ _ _ (lt-leb (length stream) 0 h)
-    ∙ ap (λ (l : List ℕ). lineFor run stream ++ l) (enough most (length rest) (after run stream) rest (omega (arith, length-drop size stream, some)) (omega arith))
+    ∙ ap (λ (l : List ℕ). lineFor run stream ++ l) (enough most (length rest) (after run stream) rest (omega (arith, length-drop size stream)) (omega arith))
 
 -- the same with more behind it
 first-whole : (ended : Bool) (run : Run) (rest more : List ℕ) → (ended ≡ true → more ≡ []) → isWhole ended (length rest) (pieceAt rest 0) ≡ true
@@ -143,10 +139,10 @@ first-whole : (ended : Bool) (run : Run) (rest more : List ℕ) → (ended ≡ t
 first-whole ended run rest more none t =
     let piece : pieceAt (rest ++ more) 0 ≡ pieceAt rest 0 = same-piece ended rest more none t in
     let answer = same-answer 256 (run .station) rest more piece in
-    let some : 0 < sizeOf (pieceAt rest 0) = some-byte rest ended (length rest) t in
+    let some = some-left rest ended (length rest) t in
     let size : sizeOf (pieceAt rest 0) ≤ length rest = within rest in
     let left : drop (sizeOf (pieceAt (rest ++ more) 0)) (rest ++ more) ≡ drop (sizeOf (pieceAt rest 0)) rest ++ more = ap (λ (p : Piece). drop (sizeOf p) (rest ++ more)) piece ∙ drop-append-le (sizeOf (pieceAt rest 0)) rest more size in
-    first-event run (rest ++ more) (omega (arith, length-append rest more, some, size))
+    first-event run (rest ++ more) (omega (arith, length-append rest more))
     ∙ rw (answer, left)
 
 -- ---- blocks
@@ -174,5 +170,6 @@ module _ (ended : Bool) (room : ℕ) (bytes more : List ℕ) (none : ended ≡ t
       (λ t. ap total (stops (suc most) ended room bytes w t))
 
   -- What a run writes of a block, and then of what is left of it with all that comes after, is what it writes of the whole.
-  pub carried-on : (run : Run) → workOf ended room bytes run .text ++ linesOf (workOf ended room bytes run .run) (drop (workOf ended room bytes run .taken) bytes ++ more) ≡ linesOf run (bytes ++ more)
-  carried-on run = all (length bytes) (record { run = run; taken = 0; text = [] })
+  pub carried-on : (run : Run)
+      → workOf ended room bytes run .text ++ linesOf (workOf ended room bytes run .run) (drop (workOf ended room bytes run .taken) bytes ++ more) ≡ linesOf run (bytes ++ more)
+  carried-on run = all (length bytes) (beginning run)

@@ -1,12 +1,12 @@
 -- How many digits a number has, and how long the texts of numbers are.
-use Prim.Native.Nat.{ℕ, zero, suc, _*_, _/_, _^_, _≤_, _<_}
+use Prim.Native.Nat.{ℕ, zero, suc, _*_, _/_, _≤_, _<_}
 use mathlib.Core.Path.{_≡_, refl, _∙_}
-use mathlib.Core.Bool.{Bool, true, false, cond}
 use mathlib.Core.List.{List, [], _∷_}
 use borrow.Author.Tests.{le-leb, lt-leb}
 use native.Mathlib.Omega.{arith}
 use lib.Dec.{leb}
 use lib.ListN.{length, length-append}
+use Rattle.laws.proofs.Tests.{by-cases}
 use Rattle.table.specs.declared.Outcome.{Outcome}
 use Rattle.lines.specs.Lines.{firstEight, lineOf}
 use Rattle.lines.specs.Text.{sizeIn, size, digits, cell, spaced}
@@ -18,19 +18,20 @@ one-digit zero n h = refl
 one-digit (suc most) n h = rw (lt-leb 10 n h)
 
 -- Another has one more than its tenth.
-pub one-more : (most n : ℕ) → 10 ≤ n → n < 10 ^ suc most → (less : ℕ) × (suc less ≡ most) × (sizeIn most n ≡ suc (sizeIn less (n / 10))) × (n / 10 < 10 ^ suc less)
+pub more-digits : (most n : ℕ) → 10 ≤ n → sizeIn (suc most) n ≡ suc (sizeIn most (n / 10))
 unfolding sizeIn
-one-more zero n h k = absurd (omega arith)
-one-more (suc most) n h k = (most, refl, rw (le-leb 10 n h), omega arith)
+more-digits most n h = rw (le-leb 10 n h)
+
+-- A number has a digit at least, and no more than are allowed.
+pub some-digit : (most n : ℕ) → 1 ≤ sizeIn most n
+unfolding sizeIn
+some-digit zero n = omega arith
+some-digit (suc most) n = by-cases (leb 10 n) (λ t. rw t (omega arith)) (λ t. rw t (omega arith))
 
 pub size-most : (most n : ℕ) → sizeIn most n ≤ suc most
 unfolding sizeIn
 size-most zero n = omega arith
-size-most (suc most) n = most-by (leb 10 n) (sizeIn most (n / 10)) (size-most most (n / 10))
-  where
-    most-by : {most : ℕ} (b : Bool) (k : ℕ) → k ≤ suc most → cond b (suc k) 1 ≤ suc (suc most)
-    most-by true k h = omega arith
-    most-by false k h = omega arith
+size-most (suc most) n = by-cases (leb 10 n) (λ t. rw t (omega (arith, size-most most (n / 10)))) (λ t. rw t (omega arith))
 
 pub length-digits : (k n : ℕ) → length (digits k n) ≡ k
 unfolding digits

@@ -2,7 +2,6 @@
 use Prim.Native.Nat.{ℕ, zero, suc, _+_, _*_, _-_, _/_, _%_, _^_, _≤_, _<_}
 use mathlib.Core.Path.{_≡_, refl, sym, ap, _∙_}
 use mathlib.Core.List.{List, [], _∷_, _++_}
-use mathlib.Core.Bool.{true}
 use borrow.Author.Tests.{eqb-true, eqb-false, leb-true, leb-false}
 use native.Mathlib.Omega.{arith}
 use lib.Dec.{leb, eqb}
@@ -10,7 +9,7 @@ use lib.ListN.{getD, List·getD-append}
 use lib.Seq.{getD-at}
 use Rattle.laws.proofs.Tests.{by-cases}
 use Rattle.lines.specs.Text.{sizeIn, size, digits}
-use Rattle.lines.proofs.Digits.{one-digit, length-digits}
+use Rattle.lines.proofs.Digits.{one-digit, more-digits, some-digit, length-digits}
 
 -- the number that digits in ASCII stand for, after so much was read
 unfoldable pub value : ℕ → List ℕ → ℕ
@@ -34,16 +33,11 @@ nothing-read n = refl
 one-read : (n : ℕ) → n < 10 → value 0 (digits 1 n) ≡ n
 one-read n few = last-digit 0 n ∙ rw (nothing-read (n / 10)) (omega arith)
 
--- A number of ten or more has one digit more than its tenth.
-more-digits : (most n : ℕ) → leb 10 n ≡ true → sizeIn (suc most) n ≡ suc (sizeIn most (n / 10))
-unfolding sizeIn
-more-digits most n t = rw t
-
 reads : (most n : ℕ) → n < 10 ^ suc most → value 0 (digits (sizeIn most n) n) ≡ n
 reads zero n small = rw (one-digit zero n (omega arith)) (one-read n (omega arith))
 reads (suc most) n small =
     by-cases (leb 10 n)
-    (λ t. rw (more-digits most n t) (last-digit (sizeIn most (n / 10)) n ∙ rw (reads most (n / 10) (omega arith)) (omega arith)))
+    (λ t. rw (more-digits most n (leb-true 10 n t)) (last-digit (sizeIn most (n / 10)) n ∙ rw (reads most (n / 10) (omega arith)) (omega arith)))
     (λ t. rw (one-digit (suc most) n (leb-false 10 n t)) (one-read n (leb-false 10 n t)))
 
 -- The text of a number of 64 bits reads back to it.
@@ -66,11 +60,6 @@ digit-at (suc k) n i h =
     rw (List·getD-append (digits k (n / 10)) ((48 + n % 10) ∷ []) 0 i (omega (arith, length-digits k (n / 10)))) (digit-at k (n / 10) i before))
 
 -- The first digit of a number that is not 0 is not 0.
-some-digit : (most n : ℕ) → 1 ≤ sizeIn most n
-unfolding sizeIn
-some-digit zero n = omega arith
-some-digit (suc most) n = by-cases (leb 10 n) (λ t. rw t (omega arith)) (λ t. rw t (omega arith))
-
 first-digit : (k n : ℕ) → 1 ≤ k → getD (digits (suc k) n) 0 0 ≡ getD (digits k (n / 10)) 0 0
 unfolding digits
 first-digit k n some = List·getD-append (digits k (n / 10)) ((48 + n % 10) ∷ []) 0 0 (omega (arith, length-digits k (n / 10)))
@@ -83,7 +72,7 @@ leads : (most n : ℕ) → 1 ≤ n → n < 10 ^ suc most → 49 ≤ getD (digits
 leads zero n some small = rw (one-digit zero n (omega arith)) (one-first n some (omega arith))
 leads (suc most) n some small =
     by-cases (leb 10 n)
-    (λ t. rw (more-digits most n t, first-digit (sizeIn most (n / 10)) n (some-digit most (n / 10))) (leads most (n / 10) (omega (arith, leb-true 10 n t)) (omega arith)))
+    (λ t. rw (more-digits most n (leb-true 10 n t), first-digit (sizeIn most (n / 10)) n (some-digit most (n / 10))) (leads most (n / 10) (omega (arith, leb-true 10 n t)) (omega arith)))
     (λ t. rw (one-digit (suc most) n (leb-false 10 n t)) (one-first n some (leb-false 10 n t)))
 
 pub no-leading-zero : (n : ℕ) → 1 ≤ n → n < 2 ^ 64 → 49 ≤ getD (digits (size n) n) 0 0

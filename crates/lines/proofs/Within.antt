@@ -2,7 +2,7 @@
 use Prim.Native.Nat.{ℕ, zero, suc, _-_, _≤_}
 use mathlib.Core.Path.{_≡_, sym, subst}
 use mathlib.Core.Bool.{Bool, true}
-use mathlib.Core.List.{List, []}
+use mathlib.Core.List.{List}
 use borrow.Author.Tests.{leb-true}
 use native.Mathlib.Omega.{arith}
 use lib.Dec.{leb}
@@ -14,7 +14,7 @@ use Rattle.records.proofs.RoundTrip.{bytes-drop}
 use Rattle.table.specs.Reached.{Reached}
 use Rattle.lines.specs.declared.Progress.{Progress}
 use Rattle.lines.specs.declared.Run.{Run}
-use Rattle.lines.specs.Lines.{isWhole, answerTo, lineOf, Work, goesOn, onward, workOn, workOf, progress, leftIn}
+use Rattle.lines.specs.Lines.{isWhole, answerTo, lineOf, Work, beginning, goesOn, onward, workOn, workOf, progress, leftIn}
 use Rattle.lines.proofs.Digits.{line-most}
 use Rattle.lines.proofs.Going.{within, still-reached, goes, stops}
 
@@ -32,7 +32,7 @@ module _ (ended : Bool) (room : ℕ) (bytes : List ℕ) (known : AreBytes bytes)
       let outcome = answerTo 256 (w .run .station) rest (pieceAt rest 0) .outcome in
       record {
         reached = still-reached 256 (w .run .station) rest (h .reached) (bytes-drop (w .taken) bytes known);
-        taken = omega (arith, within rest, length-drop (w .taken) bytes, h .taken);
+        taken = omega (arith, within rest, length-drop (w .taken) bytes);
         written = omega (arith, length-append (w .text) (lineOf place outcome), line-most place outcome, leb-true 189 (room - length (w .text)) fits);
       }
 
@@ -45,10 +45,11 @@ module _ (ended : Bool) (room : ℕ) (bytes : List ℕ) (known : AreBytes bytes)
       (λ t. subst Within (sym (stops (suc most) ended room bytes w t)) h)
 
   pub work-within : (run : Run) → Reached (run .station) → Within (workOf ended room bytes run)
-  work-within run h = all (length bytes) (record { run = run; taken = 0; text = [] }) (record { reached = h; taken = omega arith; written = omega arith })
+  work-within run h = all (length bytes) (beginning run) (record { reached = h; taken = omega arith; written = omega arith })
 
 -- The same of what a run answers.
-pub progress-within : (ended : Bool) (out bytes : List ℕ) → AreBytes bytes → (run : Run) → Reached (run .station) → (p : Progress) → p ≡ progress (workOf ended (length out) bytes run) → Reached (p .run .station) × (p .taken ≤ length bytes) × (p .written ≤ length out)
+pub progress-within : (ended : Bool) (out bytes : List ℕ) → AreBytes bytes → (run : Run) → Reached (run .station) → (p : Progress)
+    → p ≡ progress (workOf ended (length out) bytes run) → Reached (p .run .station) × (p .taken ≤ length bytes) × (p .written ≤ length out)
 progress-within ended out bytes known run h p e =
     let w = work-within ended (length out) bytes known run h in
     subst (λ (q : Progress). Reached (q .run .station) × (q .taken ≤ length bytes) × (q .written ≤ length out)) (sym e) (w .reached, w .taken, w .written)

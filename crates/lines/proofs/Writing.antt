@@ -23,7 +23,8 @@ last-first l i (x ∷ xs) y =
     ∙ ap (λ (m : List ℕ). sets m (suc i) xs) (set-comm l i (suc i + length xs) x y (λ e. omega arith) ∙ ap (λ (k : ℕ). set (set l k y) i x) there)
 
 -- Two texts, the second where the first ended, are the two put together: the next place, and what is written.
-pub joined : (out left last : List ℕ) (at next end : ℕ) (xs ys : List ℕ) → next ≡ at + length xs → left ≡ sets out at xs → end ≡ next + length ys → last ≡ sets left next ys
+pub joined : (out left last : List ℕ) (at next end : ℕ) (xs ys : List ℕ) → next ≡ at + length xs → left ≡ sets out at xs → end ≡ next + length ys
+    → last ≡ sets left next ys
     → (end ≡ at + length (xs ++ ys)) × (last ≡ sets out at (xs ++ ys))
 joined out left last at next end xs ys n l e f =
     (e ∙ rw (n, length-append xs ys) (add-assoc at (length xs) (length ys)), f ∙ rw (l, n) (sym (sets-append out at xs ys)))

@@ -1,14 +1,14 @@
 -- One direction of the world, from a source to a target, and what a step of either does to it: each step of the world is a turn of the
 -- source in one direction and a turn of the target in the other.
-use Prim.Native.Nat.{ℕ, _+_}
+use Prim.Native.Nat.{ℕ}
 use mathlib.Core.Path.{_≡_}
 use mathlib.Core.List.{List, _++_}
 use mathlib.Core.Option.{Option}
 use Rattle.records.specs.declared.Record.{Record}
 use Rattle.table.specs.declared.Answer.{Answer}
 use Rattle.table.specs.declared.Station.{Station}
-use Rattle.table.specs.Views.{sent, issued, Laws, StepLaws}
-use Rattle.pair.specs.World.{Side, other, Numbers, Handover, Envelope, World, issuing, atSource, atTarget, fixing, belongs, posted, Comes, All, Recent}
+use Rattle.table.specs.Views.{issued, Laws, StepLaws}
+use Rattle.pair.specs.World.{Side, other, Numbers, nextIssue, Handover, Envelope, World, issuing, atSource, atTarget, fixing, letter, posted, Comes, All, Recent}
 
 -- The source and the number under which it knows the target, the target and the number under which it knows the source, the messages to
 -- the target (requests are among them) and those to the source (answers and releases), and the history of the source's handovers.
@@ -61,7 +61,7 @@ module _ (s : Side) (d : Direction) (e : Record) (a : Answer) (taken : Option En
         towards = d .towards;
         target = d .target;
         back = d .back;
-        requests = d .requests ++ posted (d .towards) a (belongs (d .numbers .issuedCount + 1) taken fixed (sent a)) stamp;
+        requests = d .requests ++ posted (d .towards) (letter a (nextIssue (d .numbers)) taken fixed stamp);
         answers = rest;
         numbers = issuing (issued a) (d .numbers);
         fixedFor = d .fixedFor;
@@ -86,7 +86,7 @@ module _ (s : Side) (d : Direction) (e : Record) (a : Answer) (taken : Option En
         target = a .station;
         back = d .back;
         requests = rest;
-        answers = d .answers ++ posted (d .back) a (belongs issue taken (d .fixedFor) (sent a)) stamp;
+        answers = d .answers ++ posted (d .back) (letter a issue taken (d .fixedFor) stamp);
         numbers = d .numbers;
         fixedFor = fixing (d .back) a taken (d .fixedFor);
         handovers = λ h. atTarget (d .back) (d .target) e a taken (d .fixedFor) h (d .handovers h);

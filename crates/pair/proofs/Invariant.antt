@@ -7,8 +7,8 @@ use mathlib.Core.List.{[], _∷_}
 use mathlib.Core.Logic.{_⊎_, _↔_}
 use lib.Dec.{eqb}
 use Rattle.table.specs.Events.{message}
-use Rattle.table.specs.Views.{last, Outgoing, Prepared, Incoming, Held, someOut, out, held, isOtherEnding}
-use Rattle.pair.specs.World.{Side, Answered, Silent, Refused, Fixed, untold, Envelope, recordOf, All}
+use Rattle.table.specs.Views.{Outgoing, Prepared, Incoming, Held, someOut, out, held, isOtherEnding}
+use Rattle.pair.specs.World.{Side, Answered, Silent, Refused, Fixed, untold, Envelope, recordOf, All, limit}
 use Rattle.pair.proofs.Lists.{Pairs}
 use Rattle.pair.proofs.Ledger.{UsedOf, IssuedOf, LedgerOf}
 use Rattle.pair.proofs.Directions.{Direction}
@@ -30,6 +30,10 @@ setOf m = m .message .first
 abbrev pub outgoing : Direction → ℕ → Outgoing
 outgoing d i = out (d .source) (d .towards) i
 
+-- the record of a handover
+abbrev pub recordFor : Direction → ℕ → Outgoing
+recordFor d h = recordOf (d .numbers) (outgoing d) h
+
 abbrev pub reserved : Direction → ℕ → Incoming
 reserved d n = held (d .target) (d .back) n
 
@@ -50,7 +54,7 @@ pub record Requested (s : Side) (d : Direction) (m : Envelope) : Type 0 where
 pub record Replied (s : Side) (d : Direction) (m : Envelope) (answer : Answered) : Type 0 where
   pub named : 1 ≤ m .tag
   pub latest : d .numbers .issueOf (oldOf m) ≡ m .tag
-  pub stamped : m .stamp s < m .tag + 2000
+  pub stamped : m .stamp s < m .tag + limit
   pub answered : d .handovers (m .tag) .answer ≡ answer
 
 -- a release: its handover had its Old ID, the UE arrived, and the target had acknowledged its New ID; it says nothing else
@@ -128,7 +132,7 @@ module _ (s : Side) (d : Direction) where
   abbrev pub Ended : Type 0
   Ended =
       (h : ℕ) → d .handovers h .asked ≡ true
-      → (someOut (recordOf (d .numbers) (outgoing d) h) ≡ true) ⊎ ((z : ℕ) × (d .handovers h .endings ≡ z ∷ []) × (isEnding z ≡ true))
+      → (someOut (recordFor d h) ≡ true) ⊎ ((z : ℕ) × (d .handovers h .endings ≡ z ∷ []) × (isEnding z ≡ true))
 
   abbrev pub Moved : Type 0
   Moved = (h : ℕ) → (d .handovers h .endings ≡ 3 ∷ []) ↔ (d .handovers h .came ≡ true)

@@ -13,25 +13,25 @@ use Rattle.laws.proofs.Tests.{by-cases}
 use Rattle.table.specs.declared.Answer.{Answer}
 use Rattle.table.specs.declared.Station.{Station}
 use Rattle.table.specs.Numbers.{nextAfter}
-use Rattle.table.specs.Views.{count, times, ids, last, Walk, land, pass, issued, Issues, IssuesNone, Laws}
+use Rattle.table.specs.Views.{count, times, ids, last, Walk, land, pass, Issues, IssuesNone, Laws}
 use Rattle.table.proofs.Issuing.{next-small}
-use Rattle.pair.specs.World.{Numbers, issuing}
+use Rattle.pair.specs.World.{Numbers, nextIssue, issuing}
 use Rattle.pair.proofs.Ring.{distance, ahead, distance-self, distance-range, distance-next, distance-step, count-length, ahead-step}
 
 -- An own ID that the search finds is below 4,096, and is not in use.
-pub walk-below : (used : List ℕ) (c j : ℕ) → c < 4096 → Walk used c j → j < 4096
-walk-below used c j low (land next free) = rw next (next-small c low)
-walk-below used c j low (pass taken on) = walk-below used (nextAfter c) j (next-small c low) on
+walk-below : {used : List ℕ} {c j : ℕ} → c < 4096 → Walk used c j → j < 4096
+walk-below {c = c} low (land next free) = rw next (next-small c low)
+walk-below {c = c} low (pass taken on) = walk-below (next-small c low) on
 
-pub walk-free : (used : List ℕ) (c j : ℕ) → Walk used c j → times j used ≡ 0
-walk-free used c j (land next free) = free
-walk-free used c j (pass taken on) = walk-free used (nextAfter c) j on
+walk-free : {used : List ℕ} {c j : ℕ} → Walk used c j → times j used ≡ 0
+walk-free (land next free) = free
+walk-free (pass taken on) = walk-free on
 
 -- The search goes from c to j. If it ends at i, then i was issued 4,033 issues ago at least; if not, the ledger of i still holds.
-module _ (used : List ℕ) (room : length used < 64) (small : count (leb 4096) used ≡ 0) (i issue issues : ℕ) (fits : i < 4096) (past : issue ≤ issues) where
-  searched : (c j : ℕ) → c < 4096 → Walk used c j → issue + 4033 + ahead c i used ≤ issues + distance c i
+module _ {used : List ℕ} (room : length used < 64) (small : count (leb 4096) used ≡ 0) (i issue issues : ℕ) (fits : i < 4096) (past : issue ≤ issues) where
+  searched : {c j : ℕ} → c < 4096 → Walk used c j → issue + 4033 + ahead c i used ≤ issues + distance c i
       → (i ≡ j → issue + 4033 ≤ issues + 1) × ((i ≡ j → ⊥) → issue + 4033 + ahead j i used ≤ issues + 1 + distance j i)
-  searched c j low (land next free) ledger = (
+  searched {c} {j} low (land next free) ledger = (
     λ same. let near : distance c i ≡ 1 = rw (same, next) (distance-next c low) in omega arith,
     λ apart.
         let other : i ≡ nextAfter c → ⊥ = λ h. apart (h ∙ sym next) in
@@ -39,8 +39,8 @@ module _ (used : List ℕ) (room : length used < 64) (small : count (leb 4096) u
         let lost : ahead c i used ≡ ahead j i used + times j used = rw next (ahead-step c i low fits other used small) in
         omega arith,
   )
-  searched c j low (pass taken on) ledger =
-      searched (nextAfter c) j (next-small c low) on
+  searched {c} low (pass taken on) ledger =
+      searched (next-small c low) on
       (by-cases (eqb i (nextAfter c))
       (λ t.
       let far : distance (nextAfter c) i ≡ 4096 = ap (distance (nextAfter c)) (eqb-true i (nextAfter c) t) ∙ distance-self (nextAfter c) in
@@ -75,62 +75,64 @@ pub count-grows : (n : Numbers) (new : Option ℕ) → n .issuedCount ≤ issuin
 count-grows n none = omega arith
 count-grows n (some j) = omega arith
 
-module _ (x : Station) (a : Answer) (n : Numbers) (laws : Laws x) (used : UsedOf x n) (known : IssuedOf n) (ledger : LedgerOf x n) where
+-- What a step issues, if it does (`new`); what it did before.
+module _ {x : Station} {a : Answer} (n : Numbers) where
   -- An own ID that is issued again was issued at least 4,033 issues ago.
-  pub reissue : (j : ℕ) → Issues j x a → 1 ≤ n .issueOf j → n .issueOf j + 4033 ≤ n .issuedCount + 1
-  reissue j new was =
-      searched (ids x) (new .room) (laws .range .1) j (n .issueOf j) (n .issuedCount) (known j was .2) (known j was .0) (last x) j (laws .range .0) (new .walk) (ledger j was) .0 refl
+  pub reissue : Laws x → IssuedOf n → LedgerOf x n → (j : ℕ) → Issues j x a → 1 ≤ n .issueOf j → n .issueOf j + 4033 ≤ nextIssue n
+  reissue laws known ledger j new was =
+      let k = known j was in
+      searched (new .room) (laws .range .1) j (n .issueOf j) (n .issuedCount) (k .2) (k .0) (laws .range .0) (new .walk) (ledger j was) .0 refl
 
-  pub used-kept : (new : Option ℕ) → ((j : ℕ) → new ≡ some j → Issues j x a) → (new ≡ none → IssuesNone x a) → UsedOf (a .station) (issuing new n)
-  used-kept none one idle i there = used i (omega (arith, idle refl .fewer (eqb i)))
-  used-kept (some j) one idle i there =
+  pub used-kept : (new : Option ℕ) → ((j : ℕ) → new ≡ some j → Issues j x a) → (new ≡ none → IssuesNone x a) → UsedOf x n → UsedOf (a .station) (issuing new n)
+  used-kept none one idle used i there = used i (omega (arith, idle refl .fewer (eqb i)))
+  used-kept (some j) one idle used i there =
       by-cases (eqb i j) (λ t. rw t (omega arith))
       (λ t. rw t (used i (let more = rw t at (one j refl .more (eqb i)) in omega arith)))
 
-  pub issued-kept : (new : Option ℕ) → ((j : ℕ) → new ≡ some j → Issues j x a) → IssuedOf (issuing new n)
-  issued-kept none one i = known i
-  issued-kept (some j) one i =
+  pub issued-kept : (new : Option ℕ) → ((j : ℕ) → new ≡ some j → Issues j x a) → Laws x → IssuedOf n → IssuedOf (issuing new n)
+  issued-kept none one laws known i = known i
+  issued-kept (some j) one laws known i =
       by-cases (eqb i j)
       (λ t.
       let same = eqb-true i j t in
-      let below = walk-below (ids x) (last x) j (laws .range .0) (one j refl .walk) in
-      rw t (λ was. (omega arith, rw (eq-eqb (n .issuedCount + 1) (n .issuedCount + 1) refl) (sym same), omega arith)))
+      let below = walk-below (laws .range .0) (one j refl .walk) in
+      rw t (λ was. (omega arith, rw (eq-eqb (nextIssue n) (nextIssue n) refl) (sym same), omega arith)))
       (λ t. rw t (λ was.
       let k = known i was in
-      (omega arith, rw (ne-eqb (n .issueOf i) (n .issuedCount + 1) (λ same. omega arith)) (k .1), k .2)))
+      (omega arith, rw (ne-eqb (n .issueOf i) (nextIssue n) (λ same. omega arith)) (k .1), k .2)))
 
-  pub ledger-kept : (new : Option ℕ) → ((j : ℕ) → new ≡ some j → Issues j x a) → (new ≡ none → IssuesNone x a) → LedgerOf (a .station) (issuing new n)
-  ledger-kept none one idle i =
+  pub ledger-kept : (new : Option ℕ) → ((j : ℕ) → new ≡ some j → Issues j x a) → (new ≡ none → IssuesNone x a) → Laws x → IssuedOf n → LedgerOf x n
+      → LedgerOf (a .station) (issuing new n)
+  ledger-kept none one idle laws known ledger i =
       let law = idle refl in
       rw (law .latest) (λ was. omega (arith, ledger i was, law .fewer (λ y. ltb (distance (last x) y) (distance (last x) i))))
-  ledger-kept (some j) one idle i =
+  ledger-kept (some j) one idle laws known ledger i =
       let law = one j refl in
-      let below = walk-below (ids x) (last x) j (laws .range .0) (law .walk) in
+      let below = walk-below (laws .range .0) (law .walk) in
       let more = law .more (λ y. ltb (distance j y) (distance j i)) in
       let few = count-length (λ y. ltb (distance j y) (distance j i)) (ids x) in
       let self = distance-self j in
       rw (law .latest)
       (by-cases (eqb i j)
       (λ t.
-      let same = eqb-true i j t in
-      let far : distance j i ≡ 4096 = rw same self in
+      let far : distance j i ≡ 4096 = rw (eqb-true i j t) self in
       let more' = rw (le-ltb (distance j j) (distance j i) (omega arith)) at more in
-      rw t (λ was. omega (arith, law .room)))
+      rw t (λ was. omega arith))
       (λ t. rw t (λ was.
       let k = known i was in
       let range = distance-range j i below (k .2) in
       let more' = rw (le-ltb (distance j j) (distance j i) (omega arith)) at more in
-      let kept = searched (ids x) (law .room) (laws .range .1) i (n .issueOf i) (n .issuedCount) (k .2) (k .0) (last x) j (laws .range .0) (law .walk) (ledger i was) .1 (eqb-false i j t) in
+      let kept = searched (law .room) (laws .range .1) i (n .issueOf i) (n .issuedCount) (k .2) (k .0) (laws .range .0) (law .walk) (ledger i was) .1 (eqb-false i j t) in
       omega arith)))
 
-  -- One that was issued fewer than 4,000 issues ago is not the one that is issued.
-  pub not-again : (new : Option ℕ) → ((j : ℕ) → new ≡ some j → Issues j x a) → (i : ℕ) → 1 ≤ n .issueOf i
-      → issuing new n .issuedCount < n .issueOf i + 4000 → issuing new n .issueOf i ≡ n .issueOf i
-  not-again none one i was recent = refl
-  not-again (some j) one i was recent =
+  -- One that was issued fewer than 4,033 issues ago is not the one that is issued.
+  pub not-again : (new : Option ℕ) → ((j : ℕ) → new ≡ some j → Issues j x a) → Laws x → IssuedOf n → LedgerOf x n → (i : ℕ) → 1 ≤ n .issueOf i
+      → issuing new n .issuedCount < n .issueOf i + 4033 → issuing new n .issueOf i ≡ n .issueOf i
+  not-again none one laws known ledger i was recent = refl
+  not-again (some j) one laws known ledger i was recent =
       by-cases (eqb i j)
       (λ t.
-      let again = reissue i (rw (eqb-true i j t) (one j refl)) was in
+      let again = reissue laws known ledger i (rw (eqb-true i j t) (one j refl)) was in
       absurd (omega arith))
       (λ t. rw t)
 
@@ -139,7 +141,5 @@ module _ (x : Station) (a : Answer) (n : Numbers) (laws : Laws x) (used : UsedOf
   in-use none one i there = refl
   in-use (some j) one i there =
       by-cases (eqb i j)
-      (λ t.
-      let free = walk-free (ids x) (last x) j (one j refl .walk) in
-      absurd (omega (arith, rw (eqb-true i j t) at there)))
+      (λ t. absurd (omega (arith, walk-free (one j refl .walk), rw (eqb-true i j t) at there)))
       (λ t. rw t)

@@ -1,5 +1,10 @@
 -- What holds of all entries of a list, or of any two in order, holds when entries go, and when one that fits is put at the end.
+use Prim.Native.Nat.{ℕ, suc}
+use mathlib.Core.Path.{_≡_}
+use mathlib.Core.Bool.{Bool, true}
 use mathlib.Core.List.{List, [], _∷_, _++_}
+use Rattle.laws.proofs.Tests.{both-true}
+use Rattle.table.proofs.Deciding.{every}
 use Rattle.pair.specs.World.{All, nothing, more}
 
 -- what holds of any two entries, the first standing before the second
@@ -28,6 +33,13 @@ module _ {T : Type 0} where
   pub all-both : {P Q R : T → Type 0} {xs : List T} → ((x : T) → P x → Q x → R x) → All P xs → All Q xs → All R xs
   all-both f nothing qs = nothing
   all-both f (more {x = x} p ps) qs = more (f x p (all-head qs)) (all-both f ps (all-tail qs))
+
+  -- A test of every entry, and what follows of each if it holds.
+  pub all-pass : {P : T → Type 0} (test : ℕ → T → Bool) → ((i : ℕ) (x : T) → test i x ≡ true → P x) → (xs : List T) → every test xs ≡ true → All P xs
+  all-pass test f [] t = nothing
+  all-pass test f (x ∷ xs) t =
+      let both = both-true (test 0 x) (every (λ i. test (suc i)) xs) t in
+      more (f 0 x (both .0)) (all-pass (λ i. test (suc i)) (λ i. f (suc i)) xs (both .1))
 
   -- An entry is put at the end, or lists are joined.
   pub all-append : {P : T → Type 0} {xs ys : List T} → All P xs → All P ys → All P (xs ++ ys)

@@ -10,13 +10,13 @@ pub data Fewer {T : Type 0} : List T → List T → Type 0 where
   same : {xs : List T} → Fewer xs xs
   without : (older : List T) (lost : T) (younger : List T) → Fewer (older ++ younger) (older ++ (lost ∷ younger))
 
-pub all-fewer : {T : Type 0} {P : T → Type 0} (xs ys : List T) → Fewer xs ys → All P ys → All P xs
-all-fewer xs ys same ps = ps
-all-fewer xs ys (without older lost younger) ps = all-without older lost younger ps
+pub all-fewer : {T : Type 0} {P : T → Type 0} {xs ys : List T} → Fewer xs ys → All P ys → All P xs
+all-fewer same ps = ps
+all-fewer (without older lost younger) ps = all-without older lost younger ps
 
-pairs-fewer : {T : Type 0} {P : T → T → Type 0} (xs ys : List T) → Fewer xs ys → Pairs P ys → Pairs P xs
-pairs-fewer xs ys same ps = ps
-pairs-fewer xs ys (without older lost younger) ps = pairs-without older lost younger ps
+pairs-fewer : {T : Type 0} {P : T → T → Type 0} {xs ys : List T} → Fewer xs ys → Pairs P ys → Pairs P xs
+pairs-fewer same ps = ps
+pairs-fewer (without older lost younger) ps = pairs-without older lost younger ps
 
 module _ (s : Side) (d : Direction) (requests answers : List Envelope) (fewer-requests : Fewer requests (d .requests)) (fewer-answers : Fewer answers (d .answers)) where
   abbrev after : Direction
@@ -31,12 +31,6 @@ module _ (s : Side) (d : Direction) (requests answers : List Envelope) (fewer-re
   released : (m : Envelope) → Released d m → Released after m
   released m was = record { numbered = was .numbered; arrived = was .arrived; set = was .set; answered = was .answered; receiver = was .receiver; word = was .word }
 
-  in-requests : {P : Envelope → Type 0} → All P (d .requests) → All P requests
-  in-requests = all-fewer requests (d .requests) fewer-requests
-
-  in-answers : {P : Envelope → Type 0} → All P (d .answers) → All P answers
-  in-answers = all-fewer answers (d .answers) fewer-answers
-
   pub loss : Invariant s d → Invariant s (withQueues requests answers d)
   loss inv =
       record {
@@ -44,16 +38,16 @@ module _ (s : Side) (d : Direction) (requests answers : List Envelope) (fewer-re
         issued = inv .issued;
         ledger = inv .ledger;
         new = inv .new;
-        requests = all-map (λ m was kind. requested m (was kind)) (in-requests (inv .requests));
-        once = pairs-fewer requests (d .requests) fewer-requests (inv .once);
-        acknowledges = all-map (λ m was kind. replied m (Fixed (newOf m) (setOf m)) (was kind)) (in-answers (inv .acknowledges));
-        failures = all-map (λ m was kind. replied m Refused (was kind)) (in-answers (inv .failures));
-        releases = all-map (λ m was kind. released m (was kind)) (in-answers (inv .releases));
+        requests = all-map (λ m was kind. requested m (was kind)) (all-fewer fewer-requests (inv .requests));
+        once = pairs-fewer fewer-requests (inv .once);
+        acknowledges = all-map (λ m was kind. replied m (Fixed (newOf m) (setOf m)) (was kind)) (all-fewer fewer-answers (inv .acknowledges));
+        failures = all-map (λ m was kind. replied m Refused (was kind)) (all-fewer fewer-answers (inv .failures));
+        releases = all-map (λ m was kind. released m (was kind)) (all-fewer fewer-answers (inv .releases));
         held = inv .held;
         prepared = inv .prepared;
-        order = pairs-fewer answers (d .answers) fewer-answers (inv .order);
-        release-prepared = in-answers (inv .release-prepared);
-        held-acknowledge = in-answers (inv .held-acknowledge);
+        order = pairs-fewer fewer-answers (inv .order);
+        release-prepared = all-fewer fewer-answers (inv .release-prepared);
+        held-acknowledge = all-fewer fewer-answers (inv .held-acknowledge);
         held-prepared = inv .held-prepared;
         live = inv .live;
         ended = inv .ended;

@@ -74,7 +74,7 @@ not-as-fixed w prepared issue answer fixed =
     let found = fixed 0 7 1 prepared in
     let other = subst (λ (h : ℕ). w .handovers A h .answer ≡ Fixed 7 1) (sym (found .2) ∙ issue) (found .4) in
     let z : _≡_ {A = ℕ} 0 7 = cc in
-    absurd (omega arith)
+    omega arith
 
 abbrev pub another : ℕ → Record
 another neighbour = message 2 neighbour 0 7 1 0 0

@@ -1,8 +1,8 @@
 -- Every world that two fresh stations reach keeps the invariant in both directions: at the start nothing is there; a station that takes
 -- an event is a source in its own direction and a target in the other; and a message that is lost goes from one queue of each.
-use Prim.Native.Nat.{ℕ, _+_}
-use mathlib.Core.Path.{_≡_, refl}
-use mathlib.Core.List.{List, _∷_, _++_}
+use Prim.Native.Nat.{ℕ}
+use mathlib.Core.Path.{refl}
+use mathlib.Core.List.{List, _++_}
 use mathlib.Core.Option.{Option}
 use Rattle.records.specs.declared.Record.{Record}
 use Rattle.table.proofs.Interface.{laws, step-laws}
@@ -10,13 +10,24 @@ use Rattle.table.specs.declared.Answer.{Answer}
 use Rattle.table.specs.declared.Station.{Station}
 use Rattle.table.specs.Reached.{Reached, stepped}
 use Rattle.table.specs.Views.{StepLaws}
-use Rattle.pair.specs.World.{Side, A, B, other, put, Envelope, World, issuedAfter, act, Comes, nothing, Bounded, Acts, Loses, Step, acts, loses, start, Fresh, Run, begin, next}
+use Rattle.pair.specs.World.{Side, A, B, other, sides, nextIssue, Envelope, World, issuedAfter, act, Comes, nothing, Bounded, Acts, Loses, Step, acts, loses, start, Fresh, Run, begin, next}
 use Rattle.pair.proofs.Directions.{direction}
 use Rattle.pair.proofs.Invariant.{Invariant}
 use Rattle.pair.proofs.Beginning.{fresh-reached, beginning}
 use Rattle.pair.proofs.Loss.{Fewer, same, without, all-fewer, loss}
 use Rattle.pair.proofs.SourceTurn.{source-turn}
 use Rattle.pair.proofs.TargetTurn.{target-turn}
+
+-- What holds of what one side has, and of what the other has, holds of what each has.
+pub on-sides : {T : Type 0} (P : Side → T → Type 0) (s : Side) {here there : T} → P s here → P (other s) there → (r : Side) → P r (sides s here there r)
+on-sides P A mine others A = mine
+on-sides P A mine others B = others
+on-sides P B mine others A = others
+on-sides P B mine others B = mine
+
+-- Where a message is lost, of what each side has sent there is as much as before, or one less.
+pub remain : {w w' : World} {s : Side} (x : Loses w s w') (r : Side) → Fewer (sides s (x .older ++ x .younger) (w .queue (other s)) r) (w .queue r)
+remain {w} {s = s} x = on-sides (λ r messages. Fewer messages (w .queue r)) s (rw (x .was) (without (x .older) (x .lost) (x .younger))) same
 
 module _ (peer : Side → ℕ) where
   -- Whatever the history says, each station is one that a fresh one reached: its steps look at nothing else.
@@ -46,11 +57,11 @@ module _ (peer : Side → ℕ) where
         })
         (good .invariant A)
     turned A step comes after B =
-        target-turn {s = B} {d = direction peer w B} {stamp = λ r. issuedAfter w A a r .issuedCount} {issue = w .numbers A .issuedCount + 1}
+        target-turn {s = B} {d = direction peer w B} {stamp = λ r. issuedAfter w A a r .issuedCount} {issue = nextIssue (w .numbers A)}
         (record { laws = laws (good .reached A); step = step; comes = comes; stamped = refl; requests-recent = good .bounded B B })
         (good .invariant B)
     turned B step comes after A =
-        target-turn {s = A} {d = direction peer w A} {stamp = λ r. issuedAfter w B a r .issuedCount} {issue = w .numbers B .issuedCount + 1}
+        target-turn {s = A} {d = direction peer w A} {stamp = λ r. issuedAfter w B a r .issuedCount} {issue = nextIssue (w .numbers B)}
         (record { laws = laws (good .reached B); step = step; comes = comes; stamped = refl; requests-recent = good .bounded A A })
         (good .invariant A)
     turned B step comes after B =
@@ -65,48 +76,30 @@ module _ (peer : Side → ℕ) where
         })
         (good .invariant B)
 
-  -- The station that takes it is reached, and the other stays.
-  reached-after : (w : World) (s : Side) (e : Record) (a : Answer) (taken : Option Envelope) (rest : List Envelope)
-      → ((r : Side) → Reached (w .station r)) → Reached (a .station) → (r : Side) → Reached (act peer w s e a taken rest .station r)
-  reached-after w A e a taken rest before after A = after
-  reached-after w A e a taken rest before after B = before B
-  reached-after w B e a taken rest before after A = before A
-  reached-after w B e a taken rest before after B = after
-
   -- The laws of a step hold of it.
   pub step-of : {w w' : World} {s : Side} {e : Record} {a : Answer} → Good w → Acts peer w s e a w' → StepLaws (w .station s) e a
-  step-of {s = s} {e = e} good x = let answers = x .answers in rw answers (step-laws (good .reached s) e (x .bearers) (x .room))
+  step-of {s = s} {e = e} good x = rw (x .answers) (step-laws (good .reached s) e (x .bearers) (x .room))
 
   pub acted : {w w' : World} (s : Side) (e : Record) (a : Answer) → Good w → Acts peer w s e a w' → Good w'
-  acted {w} {w'} s e a good x =
-      let here = good .reached s in
-      let answers = x .answers in
-      let after : Reached (a .station) = rw answers (stepped here e (x .range) (x .bearers) (x .room)) in
+  acted {w} s e a good x =
+      let after : Reached (a .station) = rw (x .answers) (stepped (good .reached s) e (x .range) (x .bearers) (x .room)) in
       let bounded : Bounded (act peer w s e a (x .taken) (x .rest)) = rw (x .becomes) at (x .bounded) in
       rw (x .becomes)
       (record {
-        reached = reached-after w s e a (x .taken) (x .rest) (good .reached) after;
+        reached = on-sides (λ r x. Reached x) s after (good .reached (other s));
         bounded = bounded;
         invariant = turned w good e a (x .taken) (x .rest) s (step-of good x) (x .comes) bounded;
       })
 
   -- ---- a message is lost
 
-  pub remain : (s : Side) (queue : Side → List Envelope) (older : List Envelope) (lost : Envelope) (younger : List Envelope) → queue s ≡ older ++ (lost ∷ younger)
-      → (r : Side) → Fewer (put s (older ++ younger) queue r) (queue r)
-  remain A queue older lost younger was A = rw was (without older lost younger)
-  remain A queue older lost younger was B = same
-  remain B queue older lost younger was A = same
-  remain B queue older lost younger was B = rw was (without older lost younger)
-
-  lost : {w w' : World} (s : Side) → Good w → Loses peer w s w' → Good w'
+  lost : {w w' : World} (s : Side) → Good w → Loses w s w' → Good w'
   lost {w} s good x =
-      let remains = remain s (w .queue) (x .older) (x .lost) (x .younger) (x .was) in
       rw (x .becomes)
       (record {
         reached = good .reached;
-        bounded = λ r q. all-fewer _ (w .queue r) (remains r) (good .bounded r q);
-        invariant = λ r. loss r (direction peer w r) _ _ (remains r) (remains (other r)) (good .invariant r);
+        bounded = λ r q. all-fewer (remain x r) (good .bounded r q);
+        invariant = λ r. loss r (direction peer w r) _ _ (remain x r) (remain x (other r)) (good .invariant r);
       })
 
   -- ---- so every world that is reached

@@ -1,9 +1,9 @@
 -- The theorem of two stations, from the invariant.
 use Prim.Native.Nat.{ℕ, _≤_}
-use mathlib.Core.Path.{_≡_, refl, sym, ap, _∙_}
+use mathlib.Core.Path.{_≡_, refl, sym, _∙_}
 use mathlib.Core.Bool.{true, false, true≢false, false≢true}
 use mathlib.Core.List.{List, [], _∷_}
-use mathlib.Core.Logic.{inl, inr, ⊎-elim}
+use mathlib.Core.Logic.{_⊎_, inl, inr, ⊎-elim}
 use mathlib.Core.Option.{Option, some}
 use borrow.Author.Tests.{eqb-true, eqb-false, ne-eqb}
 use native.Mathlib.Omega.{arith}
@@ -15,18 +15,19 @@ use Rattle.table.specs.declared.Answer.{Answer}
 use Rattle.table.specs.declared.Station.{Station}
 use Rattle.table.specs.Views.{Outgoing, NotOut, Preparing, Prepared, Incoming, NotHeld, Held, someOut, someHeld, out, held, due, sent, to, isOtherEnding, Source, asks, readies, keeps, StepLaws}
 use Rattle.pair.specs.Theorem.{EndsOnce, AsFixed, AtRest, Past, starts, Still, here, onward, Nine, Demand}
-use Rattle.pair.specs.World.{Side, A, B, other, Envelope, World, recordOf, act, Comes, All, nothing, Acts, Step, acts, loses}
-use Rattle.pair.proofs.Posting.{isPosted, posted-to, all-posted}
+use Rattle.pair.specs.World.{Side, other, Envelope, World, recordOf, isMessage, act, Comes, All, nothing, Acts, Step, acts, loses}
+use Rattle.pair.proofs.Tests.{clash, refuted}
+use Rattle.pair.proofs.Posting.{posted-to, all-posted}
 use Rattle.pair.proofs.Taking.{taken-of, first-of, left}
 use Rattle.pair.proofs.Loss.{all-fewer}
 use Rattle.pair.proofs.Directions.{Direction, direction}
 use Rattle.pair.proofs.Invariant.{kindOf, outgoing, isEnding, Invariant}
-use Rattle.pair.proofs.Reaching.{Good, step-of, acted, remain, stepping, reached}
+use Rattle.pair.proofs.Reaching.{on-sides, remain, Good, step-of, acted, stepping, reached}
 use Rattle.pair.proofs.Targets.{granting}
 
 -- A tick is no start.
 tick-starts-none : {p : ℕ} {x : Station} {e : Record} {a : Answer} → Source p x e a → e .kind ≡ 15 → to 1 p a ≡ false
-tick-starts-none (asks x) tick = let nine = x .kind in absurd (omega arith)
+tick-starts-none (asks x) tick = absurd (omega arith)
 tick-starts-none (readies x) tick = x .silent
 tick-starts-none (keeps x) tick = x .silent
 
@@ -59,16 +60,16 @@ module _ (s : Side) (d : Direction) (i : Invariant s d) (none : (j : ℕ) → ou
             end = z;
             one = one;
             moved = (
-              λ three. let came = i .moved h .0 (one ∙ ap (λ y. y ∷ []) three) in (i .came h came, came),
+              λ three. let came = i .moved h .0 (rw three at one) in (i .came h came, came),
               λ both. let moved = i .moved h .1 (both .1) in cc,
             );
             else = λ arrived not-came.
                 other-ending z is
                 (λ first.
-                let failed = i .failed h (one ∙ ap (λ y. y ∷ []) first) in
+                let failed = i .failed h (rw first at one) in
                 let fixed = i .arrived h arrived .2 in
-                let bad : _≡_ {A = ℕ} 0 1 = cc in omega arith)
-                (λ third. true≢false (sym (i .moved h .0 (one ∙ ap (λ y. y ∷ []) third)) ∙ not-came));
+                clash (cc))
+                (λ third. true≢false (sym (i .moved h .0 (rw third at one)) ∙ not-came));
           }
 
 module _ (peer : Side → ℕ) where
@@ -83,20 +84,26 @@ module _ (peer : Side → ℕ) where
   -- Where no record of the other station has a deadline there is none: every one has.
   at-rest : {w : World} → Good peer w → (s : Side) → ((i d : ℕ) → due (w .station s) (peer s) i ≡ some d → ⊥) → AtRest peer w s
   at-rest {w} good s never =
-      let timed = laws (good .reached s) .timed in
-      let no-outgoing : (i : ℕ) → out (w .station s) (peer s) i ≡ NotOut =
-      λ i. no-out (out (w .station s) (peer s) i) (λ there. let timer = timed (peer s) i (inl there) in never i (timer .0) (timer .1)) in
       record {
-        no-reservation = λ i. no-held (held (w .station s) (peer s) i) (λ there. let timer = timed (peer s) i (inr there) in never i (timer .0) (timer .1));
+        no-reservation = λ i. no-held (held (w .station s) (peer s) i) (λ there. none i (inr there));
         no-outgoing = no-outgoing;
         ended = ends-once s (direction peer w s) (good .invariant s) no-outgoing;
       }
+    where
+      none : (i : ℕ) → (someOut (out (w .station s) (peer s) i) ≡ true) ⊎ (someHeld (held (w .station s) (peer s) i) ≡ true) → ⊥
+      none i there = let timer = laws (good .reached s) .timed (peer s) i there in never i (timer .0) (timer .1)
+
+      no-outgoing : (i : ℕ) → out (w .station s) (peer s) i ≡ NotOut
+      no-outgoing i = no-out (out (w .station s) (peer s) i) (λ there. none i (inl there))
 
   -- ---- steps in which nothing starts
 
   -- no request (1) and no acknowledge (2) is under way
+  abbrev Quiet : List Envelope → Type 0
+  Quiet messages = All (λ m. 1 ≤ kindOf m → kindOf m ≤ 2 → ⊥) messages
+
   abbrev Calm : World → Type 0
-  Calm w = (s : Side) → All (λ m. 1 ≤ kindOf m → kindOf m ≤ 2 → ⊥) (w .queue s)
+  Calm w = (s : Side) → Quiet (w .queue s)
 
   -- After such steps that is still so, and no record of the other station has got a deadline.
   record Calmly (v w : World) : Type 0 where
@@ -108,17 +115,15 @@ module _ (peer : Side → ℕ) where
     -- An event from the other station was under way, so it is no request and no acknowledge; and none is sent.
     none-comes : (k : ℕ) → 1 ≤ k → k ≤ 2 → e .kind ≡ k → e .neighbour ≡ peer s → ⊥
     none-comes k low high kind from =
-        let t = taken-of k (peer s) e (w .queue (other s)) taken rest low (omega arith) kind from comes in
-        let same = t .kind in
-        first-of (λ m. 1 ≤ kindOf m → kindOf m ≤ 2 → ⊥) t (calm (other s)) (omega arith) (omega arith)
+        let t = taken-of k low (omega arith) kind from comes in
+        first-of t (calm (other s)) (omega arith) (omega arith)
 
     no-acknowledge : to 2 (peer s) a ≡ false
     no-acknowledge =
-        by-cases (to 2 (peer s) a)
-        (λ t. let g = granting (step .target (peer s)) t in absurd (none-comes 1 (omega arith) (omega arith) (g .kind) (g .neighbour)))
-        (λ t. t)
+        refuted (to 2 (peer s) a)
+        (λ t. let g = granting (step .target (peer s)) t in none-comes 1 (omega arith) (omega arith) (g .kind) (g .neighbour))
 
-    none-sent : isPosted (peer s) a ≡ true → 1 ≤ sent a .kind → sent a .kind ≤ 2 → ⊥
+    none-sent : isMessage (peer s) (sent a) ≡ true → 1 ≤ sent a .kind → sent a .kind ≤ 2 → ⊥
     none-sent t low high =
         by-cases (eqb (sent a .kind) 1)
         (λ u. true≢false (sym (posted-to (peer s) a 1 t (eqb-true (sent a .kind) 1 u)) ∙ no-request))
@@ -132,22 +137,12 @@ module _ (peer : Side → ℕ) where
         (λ both. absurd (none-comes 2 (omega arith) (omega arith) (both .0) (both .1)))))
         (step .due-before (peer s) i d now)
 
-  acted-calmly : (w : World) → Calm w → (s : Side) (e : Record) (a : Answer) (taken : Option Envelope) (rest : List Envelope)
-      → StepLaws (w .station s) e a → Comes (peer s) e (w .queue (other s)) taken rest → to 1 (peer s) a ≡ false → Calmly w (act peer w s e a taken rest)
-  acted-calmly w calm s e a taken rest step comes no-request = record { calm = quiet s comes step no-request; due-before = timers s comes step no-request }
-    where
-      quiet : (s : Side) → Comes (peer s) e (w .queue (other s)) taken rest → StepLaws (w .station s) e a → to 1 (peer s) a ≡ false → Calm (act peer w s e a taken rest)
-      quiet A comes step no-request A = all-posted (peer A) a _ _ _ (w .queue A) (calm A) (none-sent w calm A e a taken rest step comes no-request)
-      quiet A comes step no-request B = left (peer A) e (w .queue B) taken rest comes (calm B)
-      quiet B comes step no-request A = left (peer B) e (w .queue A) taken rest comes (calm A)
-      quiet B comes step no-request B = all-posted (peer B) a _ _ _ (w .queue B) (calm B) (none-sent w calm B e a taken rest step comes no-request)
-
-      timers : (s : Side) → Comes (peer s) e (w .queue (other s)) taken rest → StepLaws (w .station s) e a → to 1 (peer s) a ≡ false
-          → (r : Side) (i d : ℕ) → due (act peer w s e a taken rest .station r) (peer r) i ≡ some d → due (w .station r) (peer r) i ≡ some d
-      timers A comes step no-request A = acted-due w calm A e a taken rest step comes no-request
-      timers A comes step no-request B = λ i d now. now
-      timers B comes step no-request A = λ i d now. now
-      timers B comes step no-request B = acted-due w calm B e a taken rest step comes no-request
+    acted-calmly : Calmly w (act peer w s e a taken rest)
+    acted-calmly =
+        record {
+          calm = on-sides (λ r messages. Quiet messages) s (all-posted (peer s) _ (w .queue s) (calm s) none-sent) (left comes (calm (other s)));
+          due-before = on-sides (λ r x. (i d : ℕ) → due x (peer r) i ≡ some d → due (w .station r) (peer r) i ≡ some d) s acted-due (λ i d now. now);
+        }
 
   module _ {w w' : World} (good : Good peer w) (calm : Calm w) where
     acts-calmly : (s : Side) (e : Record) (a : Answer) → Acts peer w s e a w' → to 1 (peer s) a ≡ false → Calmly w w'
@@ -158,7 +153,7 @@ module _ (peer : Side → ℕ) where
     calmly (loses s x) no-request =
         rw (x .becomes)
         (record {
-          calm = λ r. all-fewer _ (w .queue r) (remain peer s (w .queue) (x .older) (x .lost) (x .younger) (x .was) r) (calm r);
+          calm = λ r. all-fewer (remain x r) (calm r);
           due-before = λ r i d now. now;
         })
 

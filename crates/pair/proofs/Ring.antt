@@ -95,8 +95,8 @@ ahead-step c i low small apart xs =
     let range = distance-range (nextAfter c) i (next-small c low) small in
     count-sum (λ x. ltb (distance c x) (distance c i)) (λ x. ltb (distance (nextAfter c) x) (distance (nextAfter c) i)) (eqb (nextAfter c)) xs
     (λ x fits. one-entry (distance c x) (distance c i) (distance (nextAfter c) x) (distance (nextAfter c) i) (nextAfter c) x nearer
-    (λ same. omega (arith, ap (distance c) (sym same) ∙ distance-next c low, range .0))
-    (λ same. omega (arith, ap (distance (nextAfter c)) (sym same) ∙ distance-self (nextAfter c), range .1))
+    (λ same. omega (arith, ap (distance c) (sym same) ∙ distance-next c low))
+    (λ same. omega (arith, ap (distance (nextAfter c)) (sym same) ∙ distance-self (nextAfter c)))
     (λ other. distance-step c x low fits other))
   where
     one-entry : (was limit is limit' n x : ℕ) → limit ≡ limit' + 1 → (n ≡ x → was < limit) → (n ≡ x → limit' ≤ is) → ((x ≡ n → ⊥) → was ≡ is + 1)

@@ -21,7 +21,9 @@ use Rattle.table.specs.Numbers.{anyOf, issueFrom}
 use Rattle.table.specs.Step.{stepOf}
 use Rattle.table.specs.Table.{findFrom, dueFrom, tally}
 use Rattle.table.specs.Views.{named, out, held, due}
-use Rattle.pair.specs.World.{Side, A, B, other, Numbers, Envelope, World, act, asSent, Carries, request, plain, isFrom, own, take, All, nothing, more, Recent, Bounded, withQueue, Acts, Step, acts, loses, Run, next}
+use Rattle.table.proofs.Deciding.{every}
+use Rattle.pair.proofs.Lists.{all-pass}
+use Rattle.pair.specs.World.{Side, A, B, other, Numbers, Envelope, World, act, asSent, Carries, request, plain, isMessage, own, take, All, nothing, more, Bounded, withQueue, Acts, Step, acts, loses, Run, next, limit}
 
 -- ---- what a side does
 
@@ -65,18 +67,17 @@ module _ (peer : Side → ℕ) where
 
 -- ---- whether it may
 
--- Fields with what each is below: the test, and what follows from it once for each of them.
+-- numbers with what each is below: whether they are, and what follows where each is
 abbrev pub below : List (ℕ × ℕ) → Bool
-below [] = true
-below ((x, most) ∷ xs) = ltb x most && below xs
+below = every (λ i x. ltb (x .0) (x .1))
 
 abbrev pub Given : Type 0 → List (ℕ × ℕ) → Type 0
 Given G [] = G
-Given G ((x, most) ∷ xs) = x < most → Given G xs
+Given G (x ∷ xs) = x .0 < x .1 → Given G xs
 
-give : {G : Type 0} (xs : List (ℕ × ℕ)) → below xs ≡ true → Given G xs → G
-give [] t g = g
-give ((x, most) ∷ xs) t g = let both = both-true (ltb x most) (below xs) t in give xs (both .1) (g (ltb-true x most (both .0)))
+give : {G : Type 0} {xs : List (ℕ × ℕ)} → All (λ x. x .0 < x .1) xs → Given G xs → G
+give nothing g = g
+give (more p ps) g = give ps (g p)
 
 abbrev pub fields : Record → List (ℕ × ℕ)
 fields e =
@@ -86,7 +87,7 @@ fields e =
 
 pub in-range : (e : Record) → below (fields e) ≡ true → InRange e
 in-range e t =
-    give (fields e) t
+    give (all-pass _ (λ i x. ltb-true (x .0) (x .1)) (fields e) t)
     (λ a b c d f g h i j k l m n o p.
     record {
       kind = a;
@@ -108,14 +109,7 @@ in-range e t =
 
 -- neither side has issued 2,000 numbers since a message was sent
 abbrev pub recent : Side → Numbers → List Envelope → Bool
-recent s n [] = true
-recent s n (m ∷ ms) = ltb (n .issuedCount) (m .stamp s + 2000) && recent s n ms
-
-all-recent : (s : Side) (n : Numbers) (ms : List Envelope) → recent s n ms ≡ true → All (Recent s n) ms
-all-recent s n [] t = nothing
-all-recent s n (m ∷ ms) t =
-    let both = both-true (ltb (n .issuedCount) (m .stamp s + 2000)) (recent s n ms) t in
-    more (ltb-true (n .issuedCount) (m .stamp s + 2000) (both .0)) (all-recent s n ms (both .1))
+recent s n = every (λ i m. ltb (n .issuedCount) (m .stamp s + limit))
 
 abbrev pub toBoth : (Side → Bool) → Bool
 toBoth test = test A && test B
@@ -129,7 +123,7 @@ isBounded w = toBoth (λ r. toBoth (λ s. recent s (w .numbers s) (w .queue r)))
 
 pub bounded : (w : World) → isBounded w ≡ true → Bounded w
 bounded w t r s =
-    all-recent s (w .numbers s) (w .queue r)
+    all-pass _ (λ i m. ltb-true (w .numbers s .issuedCount) (m .stamp s + limit)) (w .queue r)
     (at-side (λ x. recent x (w .numbers x) (w .queue r)) (at-side (λ y. toBoth (λ x. recent x (w .numbers x) (w .queue y))) t r) s)
 
 module _ (peer : Side → ℕ) where
@@ -143,7 +137,7 @@ module _ (peer : Side → ℕ) where
 
   -- "a message event with that number is taken from the queue and from nowhere else"
   abbrev pub may : World → Move → Bool
-  may w (does s e) = not (isFrom (peer s) e) && (below (fields e) && isBounded (after peer w (does s e)))
+  may w (does s e) = not (isMessage (peer s) e) && (below (fields e) && isBounded (after peer w (does s e)))
   may w (hears s bearers) = mayHear w s bearers (w .queue (other s))
   may w (misses s) = mayMiss (w .queue (other s))
 
@@ -173,7 +167,7 @@ module _ (peer : Side → ℕ) where
 
   pub did : (w : World) (s : Side) (e : Record) → may w (does s e) ≡ true → Acts peer w s e (stepOf (w .station s) e [] 256) (after peer w (does s e))
   did w s e t =
-      let first = both-true (not (isFrom (peer s) e)) (below (fields e) && isBounded (after peer w (does s e))) t in
+      let first = both-true (not (isMessage (peer s) e)) (below (fields e) && isBounded (after peer w (does s e))) t in
       let second = both-true (below (fields e)) (isBounded (after peer w (does s e))) (first .1) in
       record {
         range = in-range e (second .0);
@@ -182,7 +176,7 @@ module _ (peer : Side → ℕ) where
         answers = refl;
         taken = none;
         rest = w .queue (other s);
-        comes = own (not-true (isFrom (peer s) e) (first .0));
+        comes = own (not-true (isMessage (peer s) e) (first .0));
         becomes = refl;
         bounded = bounded (after peer w (does s e)) (second .1);
       }

@@ -1,15 +1,16 @@
 -- The end of a script: nothing is under way, and both clocks are ticked past every deadline until none is due, by a test that is computed.
-use Prim.Native.Nat.{ℕ, zero, suc, _+_, _≤_}
+use Prim.Native.Nat.{ℕ, _+_, _≤_}
 use mathlib.Core.Path.{_≡_, refl}
 use mathlib.Core.Bool.{Bool, true, false, not, _&&_, false≢true}
 use mathlib.Core.List.{List, [], _∷_}
 use mathlib.Core.Option.{none, some}
-use borrow.Author.Tests.{eqb-true, leb-true, not-true}
+use borrow.Author.Tests.{eqb-true, leb-true, le-leb, not-true}
 use native.Mathlib.Omega.{arith}
 use lib.Dec.{leb, eqb}
 use lib.ListN.{getD}
 use Rattle.laws.proofs.Tests.{by-cases, both-true}
 use Rattle.records.specs.declared.Record.{Record}
+use Rattle.table.proofs.Deciding.{every, every-at}
 use Rattle.table.specs.Cases as cases
 use Rattle.table.specs.Numbers.{blank, ownIs}
 use Rattle.table.specs.Step.{stepOf}
@@ -18,7 +19,8 @@ use Rattle.table.specs.Views.{recordAt, named, dueOf, due, to}
 use Rattle.table.specs.declared.Answer.{Answer}
 use Rattle.table.specs.declared.Entry.{Entry}
 use Rattle.table.specs.declared.Station.{Station}
-use Rattle.pair.specs.Theorem.{Empty, Past, Settled, Still, here, onward, Nine, Settles}
+use Rattle.pair.proofs.Tests.{clash}
+use Rattle.pair.specs.Theorem.{Past, Settled, Still, here, onward, Nine, Settles}
 use Rattle.pair.specs.World.{Side, A, B, Envelope, World, acts, Run, next}
 use Rattle.pair.proofs.Scripts.{does, after, played, may, did, toBoth, at-side}
 
@@ -41,29 +43,28 @@ empty (m ∷ ms) t = absurd (false≢true t)
 
 -- whether every deadline is at most a time
 abbrev pub allBy : ℕ → List Entry → Bool
-allBy time [] = true
-allBy time (r ∷ rs) = leb (r .deadline) time && allBy time rs
+allBy time = every (λ i r. leb (r .deadline) time)
 
-by-at : (time : ℕ) (rs : List Entry) → allBy time rs ≡ true → (i : ℕ) → getD rs i blank .deadline ≤ time
-by-at time [] t i = omega arith
-by-at time (r ∷ rs) t zero = leb-true (r .deadline) time (both-true (leb (r .deadline) time) (allBy time rs) t .0)
-by-at time (r ∷ rs) t (suc i) = by-at time rs (both-true (leb (r .deadline) time) (allBy time rs) t .1) i
-
+-- then so is that of the record found, whichever it is
 by-found : (time : ℕ) (s : Station) → allBy time (s .entries) ≡ true → (test : Entry → Bool) (i : ℕ) (rs : List Entry)
     → recordAt (findFrom test i rs) s .deadline ≤ time
 unfolding findFrom
 by-found time s t test i [] = omega arith
-by-found time s t test i (r ∷ rs) = by-cases (test r) (λ h. rw h (by-at time (s .entries) t i)) (λ h. rw h (by-found time s t test (i + 1) rs))
+by-found time s t test i (r ∷ rs) =
+    by-cases (test r)
+    (λ h. rw h (leb-true (getD (s .entries) i blank .deadline) time (every-at (λ j x. leb (x .deadline) time) (s .entries) blank i t (λ j. le-leb 0 time (omega arith)))))
+    (λ h. rw h (by-found time s t test (i + 1) rs))
 
 due-by : (time : ℕ) (s : Station) → allBy time (s .entries) ≡ true → (p i d : ℕ) → due s p i ≡ some d → d ≤ time
 unfolding due named
-due-by time s t p i d timed = go (recordAt (find (ownIs i) s) s) timed (by-found time s t (ownIs i) 0 (s .entries))
+due-by time s t p i d timed =
+    go (recordAt (find (ownIs i) s) s) timed (by-found time s t (ownIs i) 0 (s .entries))
   where
     go : (r : Entry) → dueOf p r ≡ some d → r .deadline ≤ time → d ≤ time
     go r timed by =
         by-cases (leb 1 (r .state) && leb (r .state) 3 && eqb (r .neighbour) p)
-        (λ h. let this : some (r .deadline) ≡ some d = rw h at timed in let same : r .deadline ≡ d = cc in omega (arith, by, same))
-        (λ h. let never : none ≡ some d = rw h at timed in let bad : _≡_ {A = ℕ} 0 1 = cc in absurd (omega arith))
+        (λ h. let this : some (r .deadline) ≡ some d = rw h at timed in let same : r .deadline ≡ d = cc in omega arith)
+        (λ h. let never : none ≡ some d = rw h at timed in clash (cc))
 
 module _ (peer : Side → ℕ) where
   abbrev pub atTick : World → Side → ℕ → Answer
@@ -73,11 +74,10 @@ module _ (peer : Side → ℕ) where
   abbrev pub isQuiet : World → Side → Bool
   isQuiet w s = isEmpty (w .queue s) && allBy lastTime (w .station s .entries)
 
-  quiet : (w : World) → toBoth (isQuiet w) ≡ true → Empty peer w × ((s : Side) → Past peer w s lastTime)
-  quiet w t = (
-    λ s. empty (w .queue s) (both-true (isEmpty (w .queue s)) (allBy lastTime (w .station s .entries)) (at-side (isQuiet w) t s) .0),
-    λ s. due-by lastTime (w .station s) (both-true (isEmpty (w .queue s)) (allBy lastTime (w .station s .entries)) (at-side (isQuiet w) t s) .1) (peer s),
-  )
+  quiet : (w : World) → toBoth (isQuiet w) ≡ true → (s : Side) → (w .queue s ≡ []) × Past peer w s lastTime
+  quiet w t s =
+      let both = both-true (isEmpty (w .queue s)) (allBy lastTime (w .station s .entries)) (at-side (isQuiet w) t s) in
+      (empty (w .queue s) (both .0), due-by lastTime (w .station s) (both .1) (peer s))
 
   -- and none is due then
   abbrev pub isNine : World → Side → Bool
@@ -92,10 +92,10 @@ module _ (peer : Side → ℕ) where
   settled w t =
       let parts = both-true (toBoth (isQuiet w)) (toBoth (isNine w)) t in
       record {
-        empty = quiet w (parts .0) .0;
+        empty = λ s. quiet w (parts .0) s .0;
         tick = λ s. tick lastTime;
         kind = λ s. refl;
-        past = quiet w (parts .0) .1;
+        past = λ s. quiet w (parts .0) s .1;
         bearers = [];
         room = 256;
         none-due = λ s. eqb-true (atTick w s lastTime .outcome .reply) 9 (at-side (isNine w) (parts .1) s);
@@ -162,9 +162,9 @@ module _ (peer : Side → ℕ) where
   settles w ts t =
       let parts = both-true (toBoth (isQuiet w)) (mayEndAfter w ts) t in
       record {
-        empty = quiet w (parts .0) .0;
+        empty = λ s. quiet w (parts .0) s .0;
         time = λ s. lastTime;
-        past = quiet w (parts .0) .1;
+        past = λ s. quiet w (parts .0) s .1;
         nine = each-nine here ts (parts .1);
       }
 

@@ -1,8 +1,8 @@
 -- A turn of the source, the history of its handovers: a record that goes leaves one ending. It is moved only by a release with both its IDs,
 -- which is of the same handover; and a release of the handover that finds its record prepared has both its IDs, and moves it.
-use Prim.Native.Nat.{ℕ, _+_}
-use mathlib.Core.Path.{_≡_, refl, sym, ap, _∙_}
-use mathlib.Core.Bool.{Bool, true, _&&_, _||_, true≢false, false≢true, or-true}
+use Prim.Native.Nat.{ℕ}
+use mathlib.Core.Path.{_≡_, sym, ap, _∙_}
+use mathlib.Core.Bool.{true, _&&_, _||_, true≢false, false≢true, or-true}
 use mathlib.Core.List.{List, [], _∷_, head-eq-of-cons-eq}
 use mathlib.Core.Logic.{inl, inr, ⊎-elim}
 use mathlib.Core.Option.{Option}
@@ -12,26 +12,13 @@ use lib.Dec.{eqb}
 use Rattle.laws.proofs.Tests.{by-cases, both-true, either-true}
 use Rattle.records.specs.declared.Record.{Record}
 use Rattle.table.specs.declared.Answer.{Answer}
-use Rattle.table.specs.Events.{message}
-use Rattle.table.specs.Views.{Outgoing, NotOut, Preparing, Prepared, someOut, sent, ending, to, issued, isOtherEnding, Ends, failed, moved, otherwise, Source, asks, readies, keeps}
-use Rattle.table.proofs.Interface.{request-issues}
-use Rattle.pair.specs.World.{Side, Envelope, Fixed, Refused, isPrepared, recordOf, took}
+use Rattle.table.specs.Views.{NotOut, Preparing, Prepared, someOut, sent, ending, to, issued, Ends, failed, moved, otherwise, Source, asks, readies, keeps}
+use Rattle.pair.specs.World.{Side, nextIssue, Envelope, Fixed, Refused, isPrepared, recordOf, took}
 use Rattle.pair.proofs.Directions.{Direction, SourceStep}
-use Rattle.pair.proofs.Invariant.{kindOf, oldOf, newOf, outgoing, isEnding, Replied, Released, Ended, Moved, Came, Failed, Invariant}
+use Rattle.pair.proofs.Invariant.{kindOf, oldOf, newOf, outgoing, recordFor, isEnding, Released, Ended, Moved, Came, Failed, Invariant}
 use Rattle.pair.proofs.Ledger.{number-kept}
 use Rattle.pair.proofs.Taking.{Taken, taken-of, took-of, first-of, carries-fields, carries-release}
-use Rattle.pair.proofs.SourceFacts.{fixed-same, after, in-table, asked-told, goes, gone, stays, ended-stays, record-there, record-is}
-use Rattle.pair.proofs.SourceQueues.{start-latest}
-
--- ---- tests
-
-prepared-is : (o : Outgoing) → isPrepared o ≡ true → (n : ℕ) × (set : ℕ) × (o ≡ Prepared n set)
-prepared-is NotOut is = absurd (false≢true is)
-prepared-is Preparing is = absurd (false≢true is)
-prepared-is (Prepared n set) is = (n, set, refl)
-
-other-ending : (z : ℕ) → isOtherEnding z ≡ true → isEnding z ≡ true
-other-ending z t = rw t (or-true (eqb z 1 || eqb z 3))
+use Rattle.pair.proofs.SourceFacts.{record-there, record-is, after, in-table, start-latest, start-number, comesNow, prepared-now, goes, stays, gone, ended-stays, asked-told}
 
 module _ {s : Side} {d : Direction} {e : Record} {a : Answer} {taken : Option Envelope} {rest : List Envelope} {stamp : Side → ℕ} {fixed : ℕ → ℕ}
     (x : SourceStep s d e a taken rest stamp fixed) (inv : Invariant s d) where
@@ -40,123 +27,118 @@ module _ {s : Side} {d : Direction} {e : Record} {a : Answer} {taken : Option En
   an-ending : (i : ℕ) → Ends (d .towards) i (d .source) e a → isEnding (ending a) ≡ true
   an-ending i (failed one kind neighbour old) = rw one
   an-ending i (moved set three kind neighbour old was) = rw three
-  an-ending i (otherwise t) = other-ending (ending a) t
+  an-ending i (otherwise t) = rw t (or-true (eqb (ending a) 1 || eqb (ending a) 3))
 
-  started : to 1 (d .towards) a ≡ true → someOut (recordOf (after x inv .numbers) (outgoing (after x inv)) (d .numbers .issuedCount + 1)) ≡ true
+  started : to 1 (d .towards) a ≡ true → someOut (recordOf (after x .numbers) (outgoing (after x)) (nextIssue (d .numbers))) ≡ true
   started start =
-      ap someOut (record-is (after x inv .numbers) (outgoing (after x inv)) (d .numbers .issuedCount + 1) (ap (after x inv .numbers .issueOf) number ∙ start-latest x inv start)
-      ∙ ap (outgoing (after x inv)) number ∙ made (x .step .source (d .towards)))
+      let number = start-number x start in
+      ap someOut (record-is (after x .numbers) (outgoing (after x)) (nextIssue (d .numbers)) (ap (after x .numbers .issueOf) number ∙ start-latest x start)
+      ∙ ap (outgoing (after x)) number ∙ made (x .step .source (d .towards)))
     where
-      number : after x inv .numbers .numberOf (d .numbers .issuedCount + 1) ≡ sent a .old .0
-      number = rw (request-issues (d .towards) a start, eq-eqb (d .numbers .issuedCount + 1) (d .numbers .issuedCount + 1) refl)
-
-      made : Source (d .towards) (d .source) e a → outgoing (after x inv) (sent a .old .0) ≡ Preparing
+      made : Source (d .towards) (d .source) e a → outgoing (after x) (sent a .old .0) ≡ Preparing
       made (asks l) = l .made
       made (readies l) = absurd (true≢false (sym start ∙ l .silent))
       made (keeps l) = absurd (true≢false (sym start ∙ l .silent))
 
   -- A record that stays is still that of its handover.
-  same-record : (h : ℕ) → d .handovers h .asked ≡ true → someOut (recordOf (d .numbers) (outgoing d) h) ≡ true
-      → recordOf (after x inv .numbers) (outgoing (after x inv)) h ≡ recordOf (d .numbers) (outgoing (after x inv)) h
+  same-record : (h : ℕ) → d .handovers h .asked ≡ true → someOut (recordFor d h) ≡ true
+      → recordOf (after x .numbers) (outgoing (after x)) h ≡ recordOf (d .numbers) (outgoing (after x)) h
   same-record h asked was =
       let there = record-there (d .numbers) (outgoing d) h was in
-      rw (number-kept (d .numbers) (issued a) h (asked-told x inv h asked), in-table x inv (d .numbers .numberOf h) (there .1))
+      rw (number-kept (d .numbers) (issued a) h (asked-told x inv h asked), in-table x (d .numbers .numberOf h) (there .1))
 
-  pub ended-kept : Ended s (after x inv)
+  pub ended-kept : Ended s (after x)
   ended-kept h asked =
       ⊎-elim
       (λ before. ⊎-elim
-      (λ live. by-cases (goes x inv h)
+      (λ live. by-cases (goes x h)
       (λ t. let g = gone x inv h t in inr (ending a, g .now, an-ending (d .numbers .numberOf h) (g .ends)))
-      (λ t. inl (ap someOut (same-record h before live) ∙ not-false (someOut (recordOf (d .numbers) (outgoing (after x inv)) h)) (rw live at t))))
-      (λ ended. inr (ended .0, stays x inv h (ended-stays x inv h (ended .0) (ended .1)) ∙ ended .1, ended .2))
+      (λ t. inl (ap someOut (same-record h before live) ∙ not-false (someOut (recordOf (d .numbers) (outgoing (after x)) h)) (rw live at t))))
+      (λ ended. inr (ended .0, stays x h (ended-stays x inv h (ended .0) (ended .1)) ∙ ended .1, ended .2))
       (inv .ended h before))
       (λ now.
-      let tests = both-true (to 1 (d .towards) a) (eqb h (d .numbers .issuedCount + 1)) now in
-      inl (rw (eqb-true h (d .numbers .issuedCount + 1) (tests .1)) (started (tests .0))))
-      (either-true (d .handovers h .asked) (to 1 (d .towards) a && eqb h (d .numbers .issuedCount + 1)) asked)
+      let tests = both-true (to 1 (d .towards) a) (eqb h (nextIssue (d .numbers))) now in
+      inl (rw (eqb-true h (nextIssue (d .numbers)) (tests .1)) (started (tests .0))))
+      (either-true (d .handovers h .asked) (to 1 (d .towards) a && eqb h (nextIssue (d .numbers))) asked)
 
   -- ---- moved
 
-  abbrev arrivesNow : ℕ → Bool
-  arrivesNow h = took 5 h taken && isPrepared (recordOf (d .numbers) (outgoing d) h)
-
   -- The release of a handover finds its record prepared: it has both its IDs, and so moves it.
-  takes-it : (h n set : ℕ) (t : Taken (d .towards) e (d .answers) taken rest) → Released d (t .first) → t .first .tag ≡ h
+  takes-it : (h n set : ℕ) (t : Taken 5 (d .towards) e (d .answers) taken rest) → Released d (t .first) → t .first .tag ≡ h
       → d .numbers .issueOf (d .numbers .numberOf h) ≡ h → outgoing d (d .numbers .numberOf h) ≡ Prepared n set
-      → (outgoing (after x inv) (d .numbers .numberOf h) ≡ NotOut) × (ending a ≡ 3)
+      → (outgoing (after x) (d .numbers .numberOf h) ≡ NotOut) × (ending a ≡ 3)
   takes-it h n set t r tag latest was =
       let here : d .handovers h .answer ≡ Fixed n set = ap (λ k. d .handovers k .answer) (sym latest) ∙ inv .prepared (d .numbers .numberOf h) n set was in
-      let new : newOf (t .first) ≡ n = fixed-same (sym (r .answered) ∙ ap (λ k. d .handovers k .answer) tag ∙ here) .0 in
+      let told : d .handovers h .answer ≡ Fixed (newOf (t .first)) (r .set) = rw tag at (r .answered) in
+      let new : newOf (t .first) ≡ n = cc in
       let old : oldOf (t .first) ≡ d .numbers .numberOf h = sym (r .numbered) ∙ ap (d .numbers .numberOf) tag in
-      x .step .takes (d .towards) (d .numbers .numberOf h) n set (rw (old, new) at (carries-release (d .towards) (t .first .message) e (t .carries) (r .receiver) (oldOf (t .first)) (newOf (t .first)) (r .word))) was
+      x .step .takes (d .towards) (d .numbers .numberOf h) n set (rw (old, new) at (carries-release (t .carries) (r .receiver) (oldOf (t .first)) (newOf (t .first)) (r .word))) was
 
-  moves : (h : ℕ) → arrivesNow h ≡ true → (after x inv .handovers h .endings ≡ 3 ∷ []) × (d .handovers h .arrived ≡ true)
+  moves : (h : ℕ) → comesNow x h ≡ true → (after x .handovers h .endings ≡ 3 ∷ []) × (d .handovers h .arrived ≡ true)
   moves h t =
-      let tests = both-true (took 5 h taken) (isPrepared (recordOf (d .numbers) (outgoing d) h)) t in
-      let got = took-of 5 h (d .towards) e (d .answers) taken rest (x .comes) (tests .0) in
-      let r = first-of (λ m. kindOf m ≡ 5 → Released d m) (got .0) (inv .releases) (got .1) in
-      let ready = prepared-is (recordOf (d .numbers) (outgoing d) h) (tests .1) in
+      let got = took-of 5 h (x .comes) (both-true (took 5 h taken) (isPrepared (recordFor d h)) t .0) in
+      let r = first-of (got .0) (inv .releases) (got .0 .kind) in
+      let ready = prepared-now x h t in
       let there = record-there (d .numbers) (outgoing d) h (ap someOut (ready .2)) in
-      let now = takes-it h (ready .0) (ready .1) (got .0) r (got .2) (there .0) (sym (record-is (d .numbers) (outgoing d) h (there .0)) ∙ ready .2) in
-      (gone x inv h (going (there .0) (there .1) (now .0)) .now ∙ ap (λ z. z ∷ []) (now .1), ap (λ k. d .handovers k .arrived) (sym (got .2)) ∙ r .arrived)
+      let now = takes-it h (ready .0) (ready .1) (got .0) r (got .1) (there .0) (sym (record-is (d .numbers) (outgoing d) h (there .0)) ∙ ready .2) in
+      (gone x inv h (going (there .0) (there .1) (now .0)) .now ∙ ap (λ z. z ∷ []) (now .1), ap (λ k. d .handovers k .arrived) (sym (got .1)) ∙ r .arrived)
     where
       going : d .numbers .issueOf (d .numbers .numberOf h) ≡ h → someOut (outgoing d (d .numbers .numberOf h)) ≡ true
-          → outgoing (after x inv) (d .numbers .numberOf h) ≡ NotOut → goes x inv h ≡ true
+          → outgoing (after x) (d .numbers .numberOf h) ≡ NotOut → goes x h ≡ true
       going latest was now = rw (eq-eqb (d .numbers .issueOf (d .numbers .numberOf h)) h latest, was, now)
 
   -- What moves the record of a handover is its release.
-  released : (h : ℕ) → goes x inv h ≡ true → ending a ≡ 3 → arrivesNow h ≡ true
+  released : (h : ℕ) → goes x h ≡ true → ending a ≡ 3 → comesNow x h ≡ true
   released h t three = of (gone x inv h t .ends)
     where
       latest : d .numbers .issueOf (d .numbers .numberOf h) ≡ h
       latest = gone x inv h t .latest
 
-      of : Ends (d .towards) (d .numbers .numberOf h) (d .source) e a → arrivesNow h ≡ true
+      of : Ends (d .towards) (d .numbers .numberOf h) (d .source) e a → comesNow x h ≡ true
       of (failed one kind neighbour old) = absurd (omega arith)
       of (otherwise t) = absurd (false≢true (rw three at t))
       of (moved set is kind neighbour old was) =
-          let got = taken-of 5 (d .towards) e (d .answers) taken rest (omega arith) (omega arith) kind neighbour (x .comes) in
-          let fields = carries-fields (d .towards) (got .first .message) e (got .carries) (λ one. omega (arith, got .kind ∙ kind)) in
+          let got = taken-of 5 (omega arith) (omega arith) kind neighbour (x .comes) in
+          let fields = carries-fields (got .carries) (λ one. omega arith) in
           let same : oldOf (got .first) ≡ d .numbers .numberOf h = sym (fields .0) ∙ old in
           let new : newOf (got .first) ≡ e .new .0 = sym (fields .1) in
-          let tag = first-of (λ m. kindOf m ≡ 5 → (k : ℕ) → outgoing d (oldOf m) ≡ Prepared (newOf m) k → m .tag ≡ d .numbers .issueOf (oldOf m)) got (inv .release-prepared) (got .kind ∙ kind) set (rw (same, new) was) in
+          let tag = first-of got (inv .release-prepared) (got .kind) set (rw (same, new) was) in
           rw (
             got .is,
-            eq-eqb (kindOf (got .first)) 5 (got .kind ∙ kind),
+            eq-eqb (kindOf (got .first)) 5 (got .kind),
             eq-eqb (got .first .tag) h (tag ∙ ap (d .numbers .issueOf) same ∙ latest),
             eq-eqb (d .numbers .issueOf (d .numbers .numberOf h)) h latest,
             was,
           )
 
-  pub moved-kept : Moved s (after x inv)
+  pub moved-kept : Moved s (after x)
   moved-kept h = (
-    λ is. by-cases (goes x inv h)
+    λ is. by-cases (goes x h)
         (λ t. rw (released h t (head-eq-of-cons-eq (sym (gone x inv h t .now) ∙ is))) (or-true (d .handovers h .came)))
-        (λ t. rw (inv .moved h .0 (sym (stays x inv h t) ∙ is))),
+        (λ t. rw (inv .moved h .0 (sym (stays x h t) ∙ is))),
     λ is. ⊎-elim
-        (λ was. let ended = inv .moved h .1 was in stays x inv h (ended-stays x inv h 3 ended) ∙ ended)
+        (λ was. let ended = inv .moved h .1 was in stays x h (ended-stays x inv h 3 ended) ∙ ended)
         (λ now. moves h now .0)
-        (either-true (d .handovers h .came) (arrivesNow h) is),
+        (either-true (d .handovers h .came) (comesNow x h) is),
   )
 
-  pub came-kept : Came s (after x inv)
-  came-kept h is = ⊎-elim (inv .came h) (λ now. moves h now .1) (either-true (d .handovers h .came) (arrivesNow h) is)
+  pub came-kept : Came s (after x)
+  came-kept h is = ⊎-elim (inv .came h) (λ now. moves h now .1) (either-true (d .handovers h .came) (comesNow x h) is)
 
   -- ---- failed
 
-  pub failed-kept : Failed s (after x inv)
+  pub failed-kept : Failed s (after x)
   failed-kept h is =
-      by-cases (goes x inv h)
+      by-cases (goes x h)
       (λ t. let g = gone x inv h t in of (g .latest) (head-eq-of-cons-eq (sym (g .now) ∙ is)) (g .ends))
-      (λ t. inv .failed h (sym (stays x inv h t) ∙ is))
+      (λ t. inv .failed h (sym (stays x h t) ∙ is))
     where
       of : d .numbers .issueOf (d .numbers .numberOf h) ≡ h → ending a ≡ 1 → Ends (d .towards) (d .numbers .numberOf h) (d .source) e a
           → d .handovers h .answer ≡ Refused
       of latest one (moved set three kind neighbour old was) = absurd (omega arith)
       of latest one (otherwise t) = absurd (false≢true (rw one at t))
       of latest one (failed is kind neighbour old) =
-          let got = taken-of 3 (d .towards) e (d .answers) taken rest (omega arith) (omega arith) kind neighbour (x .comes) in
-          let r = first-of (λ m. kindOf m ≡ 3 → Replied s d m Refused) got (inv .failures) (got .kind ∙ kind) in
-          let same : oldOf (got .first) ≡ d .numbers .numberOf h = sym (carries-fields (d .towards) (got .first .message) e (got .carries) (λ one. omega (arith, got .kind ∙ kind)) .0) ∙ old in
+          let got = taken-of 3 (omega arith) (omega arith) kind neighbour (x .comes) in
+          let r = first-of got (inv .failures) (got .kind) in
+          let same : oldOf (got .first) ≡ d .numbers .numberOf h = sym (carries-fields (got .carries) (λ one. omega arith) .0) ∙ old in
           ap (λ k. d .handovers k .answer) (sym latest ∙ ap (d .numbers .issueOf) (sym same) ∙ r .latest) ∙ r .answered

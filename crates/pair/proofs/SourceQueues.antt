@@ -1,105 +1,93 @@
 -- A turn of the source, the messages under way: those that stay keep what held of them, since neither their Old IDs are issued nor what was
 -- answered changes; a request that is sent is of a new handover.
-use Prim.Native.Nat.{ℕ, _+_}
-use mathlib.Core.Path.{_≡_, refl, sym, ap, _∙_}
+use Prim.Native.Nat.{ℕ}
+use mathlib.Core.Path.{_≡_, sym, ap, _∙_}
 use mathlib.Core.Bool.{true, false, _&&_, true≢false}
 use mathlib.Core.List.{List}
 use mathlib.Core.Option.{Option}
-use borrow.Author.Tests.{eq-eqb, ne-eqb}
+use borrow.Author.Tests.{ne-eqb}
 use native.Mathlib.Omega.{arith}
 use lib.Dec.{eqb}
-use Rattle.laws.proofs.Tests.{by-cases, both-true}
+use Rattle.laws.proofs.Tests.{by-cases}
 use Rattle.records.specs.declared.Record.{Record}
 use Rattle.table.specs.declared.Answer.{Answer}
-use Rattle.table.specs.Views.{Outgoing, NotOut, Preparing, Prepared, someOut, sent, to, issued}
-use Rattle.table.proofs.Interface.{request-issues}
-use Rattle.pair.specs.World.{Side, Envelope, Answered, Fixed, Refused, isPrepared, recordOf, took, belongs, posted, All, Recent}
+use Rattle.table.specs.Views.{someOut, sent, to, issued}
+use Rattle.pair.specs.World.{Side, nextIssue, Envelope, Answered, Fixed, Refused, letter, isMessage, posted, Recent}
+use Rattle.pair.proofs.Tests.{refuted}
 use Rattle.pair.proofs.Lists.{all-map, all-both, all-front}
 use Rattle.pair.proofs.Directions.{Direction, SourceStep}
-use Rattle.pair.proofs.Invariant.{kindOf, oldOf, newOf, setOf, outgoing, Requested, Replied, Released, New, Requests, Once, Acknowledges, Failures, Releases, HeldFixed, Order, HeldAcknowledge, Invariant}
+use Rattle.pair.proofs.Invariant.{kindOf, oldOf, newOf, setOf, recordFor, Requested, Replied, Released, New, Requests, Once, Acknowledges, Failures, Releases, HeldFixed, Order, HeldAcknowledge, Invariant}
 use Rattle.pair.proofs.Ledger.{number-kept, count-grows}
 use Rattle.pair.proofs.Taking.{left, left-pairs}
-use Rattle.pair.proofs.Posting.{letter, isPosted, posted-to, all-posted, pairs-posted}
-use Rattle.pair.proofs.SourceFacts.{after, under-way, no-record, answer-told}
-
-prepared-some : (o : Outgoing) → isPrepared o ≡ true → someOut o ≡ true
-prepared-some NotOut is = is
-prepared-some Preparing is = refl
-prepared-some (Prepared n set) is = refl
+use Rattle.pair.proofs.Posting.{posted-to, all-posted, pairs-posted}
+use Rattle.pair.proofs.SourceFacts.{after, start-counts, start-latest, comesNow, prepared-now, under-way, no-record, answer-told}
 
 module _ {s : Side} {d : Direction} {e : Record} {a : Answer} {taken : Option Envelope} {rest : List Envelope} {stamp : Side → ℕ} {fixed : ℕ → ℕ}
     (x : SourceStep s d e a taken rest stamp fixed) (inv : Invariant s d) where
-  -- A start is the next issue.
-  pub start-counts : to 1 (d .towards) a ≡ true → after x inv .numbers .issuedCount ≡ d .numbers .issuedCount + 1
-  start-counts asks = rw (request-issues (d .towards) a asks)
-
-  pub start-latest : to 1 (d .towards) a ≡ true → after x inv .numbers .issueOf (sent a .old .0) ≡ d .numbers .issuedCount + 1
-  start-latest asks = rw (request-issues (d .towards) a asks, eq-eqb (sent a .old .0) (sent a .old .0) refl)
-
   -- Nothing is told of a handover to come.
-  pub new-kept : New s (after x inv)
+  pub new-kept : New s (after x)
   new-kept h later =
       let before = inv .new h (omega (arith, count-grows (d .numbers) (issued a))) in
       let gone = no-record x inv h (omega (arith, count-grows (d .numbers) (issued a))) in
       rw (before, not-started, not-come gone, gone)
     where
-      not-started : (to 1 (d .towards) a && eqb h (d .numbers .issuedCount + 1)) ≡ false
+      not-started : (to 1 (d .towards) a && eqb h (nextIssue (d .numbers))) ≡ false
       not-started =
           by-cases (to 1 (d .towards) a)
-          (λ t. rw (t, ne-eqb h (d .numbers .issuedCount + 1) (λ same. omega (arith, start-counts t))))
+          (λ t. rw (t, ne-eqb h (nextIssue (d .numbers)) (λ same. omega (arith, start-counts x t))))
           (λ t. rw t)
 
-      not-come : someOut (recordOf (d .numbers) (outgoing d) h) ≡ false → (took 5 h taken && isPrepared (recordOf (d .numbers) (outgoing d) h)) ≡ false
-      not-come gone =
-          by-cases (took 5 h taken && isPrepared (recordOf (d .numbers) (outgoing d) h))
-          (λ t. absurd (true≢false (sym (prepared-some (recordOf (d .numbers) (outgoing d) h) (both-true (took 5 h taken) (isPrepared (recordOf (d .numbers) (outgoing d) h)) t .1)) ∙ gone)))
-          (λ t. t)
+      not-come : someOut (recordFor d h) ≡ false → comesNow x h ≡ false
+      not-come gone = refuted (comesNow x h) (λ t. true≢false (sym (ap someOut (prepared-now x h t .2)) ∙ gone))
 
   -- ---- requests
 
-  abbrev tag : ℕ
-  tag = belongs (d .numbers .issuedCount + 1) taken fixed (sent a)
+  abbrev posting : Envelope
+  posting = letter a (nextIssue (d .numbers)) taken fixed stamp
 
-  request-kept : (m : Envelope) → (kindOf m ≡ 1 → Requested s d m) → Recent s (after x inv .numbers) m → kindOf m ≡ 1 → Requested s (after x inv) m
+  -- A request that is sent is of the handover that it starts.
+  request-belongs : sent a .kind ≡ 1 → posting .tag ≡ nextIssue (d .numbers)
+  request-belongs kind = rw kind
+
+  request-kept : (m : Envelope) → (kindOf m ≡ 1 → Requested s d m) → Recent s (after x .numbers) m → kindOf m ≡ 1 → Requested s (after x) m
   request-kept m was recent kind =
       let k = was kind in
-      record { named = k .named; latest = under-way x inv m (k .named) (k .latest) (omega (arith, k .stamped)) recent; stamped = k .stamped; unanswered = k .unanswered }
+      record { named = k .named; latest = under-way x inv m (k .named) (k .latest) (omega arith) recent; stamped = k .stamped; unanswered = k .unanswered }
 
-  request-new : isPosted (d .towards) a ≡ true → sent a .kind ≡ 1 → Requested s (after x inv) (letter a tag stamp)
+  request-new : isMessage (d .towards) (sent a) ≡ true → sent a .kind ≡ 1 → Requested s (after x) posting
   request-new t kind =
       let asks = posted-to (d .towards) a 1 t kind in
-      let first : tag ≡ d .numbers .issuedCount + 1 = rw (eq-eqb (sent a .kind) 1 kind) in
+      let first = request-belongs kind in
       record {
         named = omega arith;
-        latest = start-latest asks ∙ sym first;
-        stamped = x .stamped ∙ start-counts asks ∙ sym first;
-        unanswered = rw first (ap (λ k. k .answer) (inv .new (d .numbers .issuedCount + 1) (omega arith)));
+        latest = start-latest x asks ∙ sym first;
+        stamped = x .stamped ∙ start-counts x asks ∙ sym first;
+        unanswered = rw first (ap (λ k. k .answer) (inv .new (nextIssue (d .numbers)) (omega arith)));
       }
 
-  pub requests-kept : Requests s (after x inv)
+  pub requests-kept : Requests s (after x)
   requests-kept =
-      all-posted (d .towards) a tag stamp (λ m. kindOf m ≡ 1 → Requested s (after x inv) m) (d .requests)
-      (all-both request-kept (inv .requests) (all-front (d .requests) (posted (d .towards) a tag stamp) (x .requests-recent)))
+      all-posted (d .towards) posting (d .requests)
+      (all-both request-kept (inv .requests) (all-front (d .requests) (posted (d .towards) posting) (x .requests-recent)))
       request-new
 
-  pub once-kept : Once s (after x inv)
+  pub once-kept : Once s (after x)
   once-kept =
-      pairs-posted (d .towards) a tag stamp (λ m m'. kindOf m ≡ 1 → kindOf m' ≡ 1 → m .tag ≡ m' .tag → ⊥) (d .requests) (inv .once)
-      (λ t. all-map older (inv .requests))
+      pairs-posted (d .towards) posting (d .requests) (inv .once) (λ t. all-map older (inv .requests))
     where
-      older : (m : Envelope) → (kindOf m ≡ 1 → Requested s d m) → kindOf m ≡ 1 → sent a .kind ≡ 1 → m .tag ≡ tag → ⊥
+      older : (m : Envelope) → (kindOf m ≡ 1 → Requested s d m) → kindOf m ≡ 1 → sent a .kind ≡ 1 → m .tag ≡ posting .tag → ⊥
       older m was one new same =
           let k = was one in
-          let first : tag ≡ d .numbers .issuedCount + 1 = rw (eq-eqb (sent a .kind) 1 new) in
-          omega (arith, inv .issued (oldOf m) (omega (arith, k .named, k .latest)) .0, k .latest)
+          let first = request-belongs new in
+          omega (arith, inv .issued (oldOf m) (omega arith) .0)
 
   -- ---- answers and releases
 
-  reply-kept : (m : Envelope) (answer : Answered) → Replied s d m answer → Recent s (after x inv .numbers) m → Replied s (after x inv) m answer
+  reply-kept : (m : Envelope) (answer : Answered) → Replied s d m answer → Recent s (after x .numbers) m → Replied s (after x) m answer
   reply-kept m answer was recent =
       record { named = was .named; latest = under-way x inv m (was .named) (was .latest) (was .stamped) recent; stamped = was .stamped; answered = was .answered }
 
-  release-kept : (m : Envelope) → Released d m → Released (after x inv) m
+  release-kept : (m : Envelope) → Released d m → Released (after x) m
   release-kept m was =
       let past = answer-told x inv (m .tag) (newOf m) (was .set) (was .answered) in
       record {
@@ -111,25 +99,22 @@ module _ {s : Side} {d : Direction} {e : Record} {a : Answer} {taken : Option En
         word = was .word;
       }
 
-  remain : {P : Envelope → Type 0} → All P (d .answers) → All P rest
-  remain = left (d .towards) e (d .answers) taken rest (x .comes)
+  pub acknowledges-kept : Acknowledges s (after x)
+  acknowledges-kept = all-both (λ m was recent kind. reply-kept m (Fixed (newOf m) (setOf m)) (was kind) recent) (left (x .comes) (inv .acknowledges)) (x .answers-recent)
 
-  pub acknowledges-kept : Acknowledges s (after x inv)
-  acknowledges-kept = all-both (λ m was recent kind. reply-kept m (Fixed (newOf m) (setOf m)) (was kind) recent) (remain (inv .acknowledges)) (x .answers-recent)
+  pub failures-kept : Failures s (after x)
+  failures-kept = all-both (λ m was recent kind. reply-kept m Refused (was kind) recent) (left (x .comes) (inv .failures)) (x .answers-recent)
 
-  pub failures-kept : Failures s (after x inv)
-  failures-kept = all-both (λ m was recent kind. reply-kept m Refused (was kind) recent) (remain (inv .failures)) (x .answers-recent)
+  pub releases-kept : Releases s (after x)
+  releases-kept = all-map (λ m was kind. release-kept m (was kind)) (left (x .comes) (inv .releases))
 
-  pub releases-kept : Releases s (after x inv)
-  releases-kept = all-map (λ m was kind. release-kept m (was kind)) (remain (inv .releases))
-
-  pub held-kept : HeldFixed s (after x inv)
+  pub held-kept : HeldFixed s (after x)
   held-kept n old set is =
       let was = inv .held n old set is in
       (number-kept (d .numbers) (issued a) (d .fixedFor n) (answer-told x inv (d .fixedFor n) n set (was .1)) ∙ was .0, was .1)
 
-  pub order-kept : Order s (after x inv)
-  order-kept = left-pairs (d .towards) e (d .answers) taken rest (x .comes) (inv .order)
+  pub order-kept : Order s (after x)
+  order-kept = left-pairs (x .comes) (inv .order)
 
-  pub held-acknowledge-kept : HeldAcknowledge s (after x inv)
-  held-acknowledge-kept = remain (inv .held-acknowledge)
+  pub held-acknowledge-kept : HeldAcknowledge s (after x)
+  held-acknowledge-kept = left (x .comes) (inv .held-acknowledge)

@@ -17,9 +17,9 @@ pub source-turn : (s : Side) (d : Direction) (e : Record) (a : Answer) (taken : 
     → SourceStep s d e a taken rest stamp fixed → Invariant s d → Invariant s (sourceAfter s d e a taken rest stamp fixed)
 source-turn s d e a taken rest stamp fixed x inv =
     record {
-      used = used-kept (d .source) a (d .numbers) (x .laws) (inv .used) (inv .issued) (inv .ledger) (issued a) (x .step .issue) (x .step .no-issue);
-      issued = issued-kept (d .source) a (d .numbers) (x .laws) (inv .used) (inv .issued) (inv .ledger) (issued a) (x .step .issue);
-      ledger = ledger-kept (d .source) a (d .numbers) (x .laws) (inv .used) (inv .issued) (inv .ledger) (issued a) (x .step .issue) (x .step .no-issue);
+      used = used-kept (d .numbers) (issued a) (x .step .issue) (x .step .no-issue) (inv .used);
+      issued = issued-kept (d .numbers) (issued a) (x .step .issue) (x .laws) (inv .issued);
+      ledger = ledger-kept (d .numbers) (issued a) (x .step .issue) (x .step .no-issue) (x .laws) (inv .issued) (inv .ledger);
       new = new-kept x inv;
       requests = requests-kept x inv;
       once = once-kept x inv;

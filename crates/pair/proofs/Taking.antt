@@ -16,8 +16,8 @@ use Rattle.pair.proofs.Lists.{Pairs, all-any, all-map, all-head, all-ta
 
 -- ---- what a message brings
 
-module _ (p : ℕ) (m e : Record) where
-  pub carries-kind : Carries p m e → e .kind ≡ m .kind
+module _ {p : ℕ} {m e : Record} where
+  carries-kind : Carries p m e → e .kind ≡ m .kind
   carries-kind (request was is neighbour old) = is ∙ sym was
   carries-kind (plain other same) = ap (λ r. r .kind) same
 
@@ -37,54 +37,52 @@ module _ (p : ℕ) (m e : Record) where
   pub carries-release : Carries p m e → (q old new : ℕ) → m ≡ message 5 q old new 0 0 0 → e ≡ message 5 p old new 0 0 0
   carries-release c q old new word = as-sent c (λ one. omega (arith, ap (λ r. r .kind) word)) ∙ ap (asSent p) word
 
--- ---- the message taken
+-- ---- the message taken, of a kind
 
-pub record Taken (p : ℕ) (e : Record) (queue : List Envelope) (taken : Option Envelope) (rest : List Envelope) : Type 0 where
+pub record Taken (k p : ℕ) (e : Record) (queue : List Envelope) (taken : Option Envelope) (rest : List Envelope) : Type 0 where
   pub first : Envelope
   pub is : taken ≡ some first
   pub queued : queue ≡ first ∷ rest
   pub carries : Carries p (first .message) e
-  pub kind : first .message .kind ≡ e .kind
+  pub kind : first .message .kind ≡ k
 
--- It is one that has the other station's number and a message's kind.
-pub taken-of : (k p : ℕ) (e : Record) (queue : List Envelope) (taken : Option Envelope) (rest : List Envelope)
-    → 1 ≤ k → k ≤ 8 → e .kind ≡ k → e .neighbour ≡ p → Comes p e queue taken rest → Taken p e queue taken rest
-taken-of k p e queue taken rest low high kind neighbour (own not-from) =
-    absurd (true≢false (rw (le-leb 1 (e .kind) (omega arith), le-leb (e .kind) 8 (omega arith), eq-eqb (e .neighbour) p neighbour) at not-from))
-taken-of k p e queue taken rest low high kind neighbour (take {m = m} queued carries) =
-    record { first = m; is = refl; queued = queued; carries = carries; kind = sym (carries-kind p (m .message) e carries) }
+module _ {p : ℕ} {e : Record} {queue : List Envelope} where
+  -- An event that has the other station's number and a message's kind is one.
+  pub taken-of : {taken : Option Envelope} {rest : List Envelope} (k : ℕ) → 1 ≤ k → k ≤ 8 → e .kind ≡ k → e .neighbour ≡ p
+      → Comes p e queue taken rest → Taken k p e queue taken rest
+  taken-of k low high kind neighbour (own not-from) =
+      absurd (true≢false (rw (le-leb 1 (e .kind) (omega arith), le-leb (e .kind) 8 (omega arith), eq-eqb (e .neighbour) p neighbour) at not-from))
+  taken-of k low high kind neighbour (take {m = m} queued carries) =
+      record { first = m; is = refl; queued = queued; carries = carries; kind = sym (carries-kind carries) ∙ kind }
 
--- A message of a kind and a handover was taken.
-pub took-of : (k h p : ℕ) (e : Record) (queue : List Envelope) (taken : Option Envelope) (rest : List Envelope) → Comes p e queue taken rest
-    → took k h taken ≡ true → (t : Taken p e queue taken rest) × (t .first .message .kind ≡ k) × (t .first .tag ≡ h)
-took-of k h p e queue taken rest (own not-from) never = absurd (false≢true never)
-took-of k h p e queue taken rest (take {m = m} queued carries) both =
-    let tests = both-true (eqb (m .message .kind) k) (eqb (m .tag) h) both in (
-      record { first = m; is = refl; queued = queued; carries = carries; kind = sym (carries-kind p (m .message) e carries) },
-      eqb-true (m .message .kind) k (tests .0),
-      eqb-true (m .tag) h (tests .1),
-    )
+  -- A message of a kind and a handover was taken.
+  pub took-of : {taken : Option Envelope} {rest : List Envelope} (k h : ℕ) → Comes p e queue taken rest → took k h taken ≡ true
+      → (t : Taken k p e queue taken rest) × (t .first .tag ≡ h)
+  took-of k h (own not-from) never = absurd (false≢true never)
+  took-of k h (take {m = m} queued carries) both =
+      let tests = both-true (eqb (m .message .kind) k) (eqb (m .tag) h) both in (
+        record { first = m; is = refl; queued = queued; carries = carries; kind = eqb-true (m .message .kind) k (tests .0) },
+        eqb-true (m .tag) h (tests .1),
+      )
 
--- What holds of all messages holds of it.
-pub first-of : {p : ℕ} {e : Record} {queue : List Envelope} {taken : Option Envelope} {rest : List Envelope} (P : Envelope → Type 0)
-    → (t : Taken p e queue taken rest) → All P queue → P (t .first)
-first-of P t ps = all-head (rw (t .queued) at ps)
+  -- What holds of all messages holds of it.
+  pub first-of : {taken : Option Envelope} {rest : List Envelope} {k : ℕ} {P : Envelope → Type 0} (t : Taken k p e queue taken rest) → All P queue → P (t .first)
+  first-of t ps = all-head (rw (t .queued) at ps)
 
--- ---- what is left
+  -- ---- what is left
 
-module _ (p : ℕ) (e : Record) (queue : List Envelope) where
-  pub left : {P : Envelope → Type 0} (taken : Option Envelope) (rest : List Envelope) → Comes p e queue taken rest → All P queue → All P rest
-  left taken rest (own not-from) ps = ps
-  left taken rest (take queued carries) ps = all-tail (rw queued at ps)
+  pub left : {taken : Option Envelope} {rest : List Envelope} {P : Envelope → Type 0} → Comes p e queue taken rest → All P queue → All P rest
+  left (own not-from) ps = ps
+  left (take queued carries) ps = all-tail (rw queued at ps)
 
-  pub left-pairs : {P : Envelope → Envelope → Type 0} (taken : Option Envelope) (rest : List Envelope) → Comes p e queue taken rest
+  pub left-pairs : {taken : Option Envelope} {rest : List Envelope} {P : Envelope → Envelope → Type 0} → Comes p e queue taken rest
       → Pairs P queue → Pairs P rest
-  left-pairs taken rest (own not-from) ps = ps
-  left-pairs taken rest (take queued carries) ps = pairs-tail (rw queued at ps)
+  left-pairs (own not-from) ps = ps
+  left-pairs (take queued carries) ps = pairs-tail (rw queued at ps)
 
   -- The message taken stood before each.
-  pub left-behind : {P : Envelope → Envelope → Type 0} (taken : Option Envelope) (rest : List Envelope) → Comes p e queue taken rest
+  pub left-behind : {taken : Option Envelope} {rest : List Envelope} {P : Envelope → Envelope → Type 0} → Comes p e queue taken rest
       → Pairs P queue → All (λ y. (m : Envelope) → taken ≡ some m → P m y) rest
-  left-behind taken rest (own not-from) ps = all-any (λ y m is. absurd (Option·none-ne-some m is)) queue
-  left-behind taken rest (take {m = first} queued carries) ps =
+  left-behind (own not-from) ps = all-any (λ y m is. absurd (Option·none-ne-some m is)) queue
+  left-behind (take {m = first} queued carries) ps =
       all-map (λ y fits m is. rw (Option·some-injective first m is) at fits) (pairs-head (rw queued at ps))

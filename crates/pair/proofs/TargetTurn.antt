@@ -13,13 +13,14 @@ use Rattle.records.specs.declared.Record.{Record}
 use Rattle.table.proofs.Interface.{to-means}
 use Rattle.table.specs.declared.Answer.{Answer}
 use Rattle.table.specs.Views.{Prepared, Incoming, NotHeld, Held, held, someHeld, sent, to}
-use Rattle.pair.specs.World.{Side, Answered, Refused, Fixed, Envelope, took, tagOf, arrivesFor, belongs}
-use Rattle.pair.proofs.Posting.{letter, isPosted, posted-to, all-posted, pairs-posted}
+use Rattle.pair.specs.World.{Side, Answered, Refused, Fixed, Envelope, took, tagOf, arrivesFor, letter, isMessage}
+use Rattle.pair.proofs.Tests.{clash, refuted}
+use Rattle.pair.proofs.Posting.{posted-to, all-posted, pairs-posted}
 use Rattle.pair.proofs.Taking.{took-of, left, left-pairs, left-behind}
 use Rattle.pair.proofs.Directions.{Direction, targetAfter, TargetStep}
 use Rattle.pair.proofs.Invariant.{kindOf, oldOf, newOf, setOf, outgoing, reserved, Requested, Replied, Released, New, Requests, Once, Acknowledges, Failures, Releases, HeldFixed, PreparedFixed, Order, ReleasePrepared, HeldAcknowledge, HeldPrepared, Came, Failed, Arrived, Invariant}
 use Rattle.pair.proofs.Lists.{all-map, all-both}
-use Rattle.pair.proofs.Targets.{granting, denying, arriving, acknowledge-belongs, failure-belongs, release-belongs, RequestOf, HeldAfter, kept, made, request-of, request-taken, held-after, same-answer, answer-once}
+use Rattle.pair.proofs.Targets.{granting, denying, arriving, RequestOf, HeldAfter, kept, made, request-of, request-taken, held-after, same-answer, answer-once}
 
 -- a held record has its IDs
 held-ids : (v : Incoming) → someHeld v ≡ true → (old : ℕ) × (set : ℕ) × (v ≡ Held old set)
@@ -32,15 +33,15 @@ module _ {s : Side} {d : Direction} {e : Record} {a : Answer} {taken : Option En
   after = targetAfter s d e a taken rest stamp issue
 
   abbrev posting : Envelope
-  posting = letter a (belongs issue taken (d .fixedFor) (sent a)) stamp
+  posting = letter a issue taken (d .fixedFor) stamp
 
   -- ---- what is told
 
   fixed-stays : (h n set : ℕ) → d .handovers h .answer ≡ Fixed n set → after .handovers h .answer ≡ Fixed n set
-  fixed-stays h n set = answer-once x i h (Fixed n set) (λ z. let bad : _≡_ {A = ℕ} 0 1 = cc in omega arith)
+  fixed-stays h n set = answer-once x i h (Fixed n set) (λ z. clash (cc))
 
   refused-stays : (h : ℕ) → d .handovers h .answer ≡ Refused → after .handovers h .answer ≡ Refused
-  refused-stays h = answer-once x i h Refused (λ z. let bad : _≡_ {A = ℕ} 0 1 = cc in omega arith)
+  refused-stays h = answer-once x i h Refused (λ z. clash (cc))
 
   arrived-stays : (h : ℕ) → d .handovers h .arrived ≡ true → after .handovers h .arrived ≡ true
   arrived-stays h t = rw t
@@ -54,19 +55,13 @@ module _ {s : Side} {d : Direction} {e : Record} {a : Answer} {taken : Option En
       (there .1, ap (λ k. d .handovers k .answer) (sym same) ∙ i .held (e .new .0) (there .0) (there .1) (there .2) .1)
 
   new-kept : New s after
-  new-kept h above = let told = i .new h above in rw (no-request, no-arrival, told)
-    where
-      no-request : took 1 h taken ≡ false
-      no-request = by-cases (took 1 h taken) (λ t. absurd (omega (arith, request-of x i h t .counted))) (λ t. t)
-
-      untold-silent : {n set : ℕ} → d .handovers h .answer ≡ Fixed n set → ⊥
-      untold-silent fixed = let told = i .new h above in let bad : _≡_ {A = ℕ} 0 1 = cc in omega arith
-
-      no-arrival : arrivesFor (d .back) (d .target) e a (d .fixedFor) h ≡ false
-      no-arrival =
-          by-cases (arrivesFor (d .back) (d .target) e a (d .fixedFor) h)
-          (λ t. absurd (untold-silent (arrives-for h t .1)))
-          (λ t. t)
+  new-kept h above =
+      let told = i .new h above in
+      rw (
+        refuted (took 1 h taken) (λ t. omega (arith, request-of x i h t .counted)),
+        refuted (arrivesFor (d .back) (d .target) e a (d .fixedFor) h) (λ t. let fixed = arrives-for h t .1 in clash (cc)),
+        told,
+      )
 
   came-kept : Came s after
   came-kept h t = arrived-stays h (i .came h t)
@@ -80,28 +75,38 @@ module _ {s : Side} {d : Direction} {e : Record} {a : Answer} {taken : Option En
       (λ u. let fixed = i .arrived h u in (fixed .0, fixed .1, fixed-stays h (fixed .0) (fixed .1) (fixed .2)))
       (λ u. let fixed = arrives-for h (rw u at t) in (e .new .0, fixed .0, fixed-stays h (e .new .0) (fixed .0) (fixed .1)))
 
+  -- ---- to which handover an answer or a release belongs
+
+  acknowledge-belongs : sent a .kind ≡ 2 → posting .tag ≡ tagOf taken
+  acknowledge-belongs two = rw two
+
+  failure-belongs : sent a .kind ≡ 3 → posting .tag ≡ tagOf taken
+  failure-belongs three = rw three
+
+  release-belongs : sent a .kind ≡ 5 → posting .tag ≡ d .fixedFor (newOf posting)
+  release-belongs five = rw five
+
   -- ---- requests
 
   -- A request that is left is of another handover than the one that was taken.
   other-request : (m : Envelope) → ((first : Envelope) → taken ≡ some first → kindOf first ≡ 1 → kindOf m ≡ 1 → first .tag ≡ m .tag → ⊥)
       → kindOf m ≡ 1 → took 1 (m .tag) taken ≡ false
   other-request m apart one =
-      by-cases (took 1 (m .tag) taken)
-      (λ t. let found = took-of 1 (m .tag) (d .back) e (d .requests) taken rest (x .comes) t in absurd (apart (found .0 .first) (found .0 .is) (found .1) one (found .2)))
-      (λ t. t)
+      refuted (took 1 (m .tag) taken)
+      (λ t. let found = took-of 1 (m .tag) (x .comes) t in apart (found .0 .first) (found .0 .is) (found .0 .kind) one (found .1))
 
   requests-kept : Requests s after
   requests-kept =
       all-both (λ m of apart one. waiting m (of one) (other-request m apart one))
-      (left (d .back) e (d .requests) taken rest (x .comes) (i .requests))
-      (left-behind (d .back) e (d .requests) taken rest (x .comes) (i .once))
+      (left (x .comes) (i .requests))
+      (left-behind (x .comes) (i .once))
     where
       waiting : (m : Envelope) → Requested s d m → took 1 (m .tag) taken ≡ false → Requested s after m
       waiting m r other =
           record { named = r .named; latest = r .latest; stamped = r .stamped; unanswered = same-answer x i (m .tag) other ∙ r .unanswered }
 
   once-kept : Once s after
-  once-kept = left-pairs (d .back) e (d .requests) taken rest (x .comes) (i .once)
+  once-kept = left-pairs (x .comes) (i .once)
 
   -- The request that is answered.
   answered : e .kind ≡ 1 → e .neighbour ≡ d .back → RequestOf d (e .old .0) (tagOf taken)
@@ -133,46 +138,46 @@ module _ {s : Side} {d : Direction} {e : Record} {a : Answer} {taken : Option En
 
   acknowledges-kept : Acknowledges s after
   acknowledges-kept =
-      all-posted (d .back) a (posting .tag) stamp _ (d .answers)
+      all-posted (d .back) posting (d .answers)
       (all-map (λ m of two. replied m (Fixed (newOf m) (setOf m)) (of two) (fixed-stays (m .tag) (newOf m) (setOf m) (of two .answered))) (i .acknowledges))
       granted
     where
-      granted : isPosted (d .back) a ≡ true → kindOf posting ≡ 2 → Replied s after posting (Fixed (newOf posting) (setOf posting))
+      granted : isMessage (d .back) (sent a) ≡ true → kindOf posting ≡ 2 → Replied s after posting (Fixed (newOf posting) (setOf posting))
       granted posted two =
           let t = posted-to (d .back) a 2 posted two in
           let g = granting (x .step .target (d .back)) t in
-          replies (Fixed (newOf posting) (setOf posting)) (g .kind) (g .neighbour) (g .old) (acknowledge-belongs issue taken (d .fixedFor) (sent a) two)
+          replies (Fixed (newOf posting) (setOf posting)) (g .kind) (g .neighbour) (g .old) (acknowledge-belongs two)
           (granted-answer t (g .kind) (g .neighbour))
 
   failures-kept : Failures s after
   failures-kept =
-      all-posted (d .back) a (posting .tag) stamp _ (d .answers)
+      all-posted (d .back) posting (d .answers)
       (all-map (λ m of three. replied m Refused (of three) (refused-stays (m .tag) (of three .answered))) (i .failures))
       denied
     where
-      denied : isPosted (d .back) a ≡ true → kindOf posting ≡ 3 → Replied s after posting Refused
+      denied : isMessage (d .back) (sent a) ≡ true → kindOf posting ≡ 3 → Replied s after posting Refused
       denied posted three =
           let t = posted-to (d .back) a 3 posted three in
           let g = denying (x .step .target (d .back)) t in
-          replies Refused (g .kind) (g .neighbour) (g .old) (failure-belongs issue taken (d .fixedFor) (sent a) three) (denied-answer t (g .kind) (g .neighbour))
+          replies Refused (g .kind) (g .neighbour) (g .old) (failure-belongs three) (denied-answer t (g .kind) (g .neighbour))
 
   -- ---- releases
 
   -- A release is sent for a held record, and is of the handover for which that was granted.
-  release-for : isPosted (d .back) a ≡ true → kindOf posting ≡ 5
+  release-for : isMessage (d .back) (sent a) ≡ true → kindOf posting ≡ 5
       → (posting .tag ≡ d .fixedFor (newOf posting)) × (set : ℕ) × (reserved d (newOf posting) ≡ Held (oldOf posting) set)
       × (after .handovers (d .fixedFor (newOf posting)) .arrived ≡ true)
   release-for posted five =
       let g = arriving (x .step .target (d .back)) (posted-to (d .back) a 5 posted five) in
       let same = eq-eqb (d .fixedFor (e .new .0)) (d .fixedFor (newOf posting)) (ap (d .fixedFor) (g .new)) in (
-        release-belongs issue taken (d .fixedFor) (sent a) five,
+        release-belongs five,
         g .admitted,
         ap (reserved d) (sym (g .new)) ∙ g .before,
         by-cases (d .handovers (d .fixedFor (newOf posting)) .arrived) (λ t. rw t) (λ t. rw (t, eq-eqb (e .kind) 11 (g .kind), eq-eqb (a .outcome .reply) 0 (g .done), g .before, same)),
       )
 
   releases-kept : Releases s after
-  releases-kept = all-posted (d .back) a (posting .tag) stamp _ (d .answers) (all-map (λ m of five. released m (of five)) (i .releases)) sends
+  releases-kept = all-posted (d .back) posting (d .answers) (all-map (λ m of five. released m (of five)) (i .releases)) sends
     where
       released : (m : Envelope) → Released d m → Released after m
       released m r =
@@ -185,7 +190,7 @@ module _ {s : Side} {d : Direction} {e : Record} {a : Answer} {taken : Option En
             word = r .word;
           }
 
-      sends : isPosted (d .back) a ≡ true → kindOf posting ≡ 5 → Released after posting
+      sends : isMessage (d .back) (sent a) ≡ true → kindOf posting ≡ 5 → Released after posting
       sends posted five =
           let r = release-for posted five in
           let granted = i .held (newOf posting) (oldOf posting) (r .1) (r .2) in
@@ -200,18 +205,19 @@ module _ {s : Side} {d : Direction} {e : Record} {a : Answer} {taken : Option En
 
   -- A release stands behind the acknowledge of its record: both are of the same handover.
   order-kept : Order s after
-  order-kept = pairs-posted (d .back) a (posting .tag) stamp _ (d .answers) (i .order) (λ posted. all-map (λ m. behind posted m) (i .held-acknowledge))
+  order-kept = pairs-posted (d .back) posting (d .answers) (i .order) (λ posted. all-map (λ m. behind posted m) (i .held-acknowledge))
     where
-      behind : isPosted (d .back) a ≡ true → (m : Envelope) → (kindOf m ≡ 2 → (set : ℕ) → reserved d (newOf m) ≡ Held (oldOf m) set → m .tag ≡ d .fixedFor (newOf m))
+      behind : isMessage (d .back) (sent a) ≡ true → (m : Envelope)
+          → (kindOf m ≡ 2 → (set : ℕ) → reserved d (newOf m) ≡ Held (oldOf m) set → m .tag ≡ d .fixedFor (newOf m))
           → kindOf m ≡ 2 → kindOf posting ≡ 5 → oldOf m ≡ oldOf posting → newOf m ≡ newOf posting → m .tag ≡ posting .tag
       behind posted m of two five old number =
           let r = release-for posted five in
           of two (r .1) (ap (reserved d) number ∙ r .2 ∙ (cc)) ∙ ap (d .fixedFor) number ∙ sym (r .0)
 
   release-prepared-kept : ReleasePrepared s after
-  release-prepared-kept = all-posted (d .back) a (posting .tag) stamp _ (d .answers) (i .release-prepared) sends
+  release-prepared-kept = all-posted (d .back) posting (d .answers) (i .release-prepared) sends
     where
-      sends : isPosted (d .back) a ≡ true → kindOf posting ≡ 5 → (set : ℕ) → outgoing d (oldOf posting) ≡ Prepared (newOf posting) set
+      sends : isMessage (d .back) (sent a) ≡ true → kindOf posting ≡ 5 → (set : ℕ) → outgoing d (oldOf posting) ≡ Prepared (newOf posting) set
           → posting .tag ≡ d .numbers .issueOf (oldOf posting)
       sends posted five set ready =
           let r = release-for posted five in
@@ -222,7 +228,8 @@ module _ {s : Side} {d : Direction} {e : Record} {a : Answer} {taken : Option En
   held-kept : HeldFixed s after
   held-kept n old set now = of (held-after x i n old set now)
     where
-      of : HeldAfter d a (tagOf taken) (after .fixedFor n) n old set → (d .numbers .numberOf (after .fixedFor n) ≡ old) × (after .handovers (after .fixedFor n) .answer ≡ Fixed n set)
+      of : HeldAfter d a (tagOf taken) (after .fixedFor n) n old set
+          → (d .numbers .numberOf (after .fixedFor n) ≡ old) × (after .handovers (after .fixedFor n) .answer ≡ Fixed n set)
       of (kept was same) =
           let for = i .held n old set was in
           (ap (d .numbers .numberOf) same ∙ for .0, ap (λ h. after .handovers h .answer) same ∙ fixed-stays (d .fixedFor n) n set (for .1))
@@ -247,12 +254,13 @@ module _ {s : Side} {d : Direction} {e : Record} {a : Answer} {taken : Option En
 
   held-acknowledge-kept : HeldAcknowledge s after
   held-acknowledge-kept =
-      all-posted (d .back) a (posting .tag) stamp _ (d .answers)
+      all-posted (d .back) posting (d .answers)
       (all-both (λ m replied of two set now. standing m (replied two) (of two) set (held-after x i (newOf m) (oldOf m) set now)) (i .acknowledges) (i .held-acknowledge))
       (λ posted two set now.
-      acknowledge-belongs issue taken (d .fixedFor) (sent a) two ∙ sym (rw (posted-to (d .back) a 2 posted two, eq-eqb (newOf posting) (newOf posting) refl)))
+      acknowledge-belongs two ∙ sym (rw (posted-to (d .back) a 2 posted two, eq-eqb (newOf posting) (newOf posting) refl)))
     where
-      standing : (m : Envelope) → Replied s d m (Fixed (newOf m) (setOf m)) → ((set : ℕ) → reserved d (newOf m) ≡ Held (oldOf m) set → m .tag ≡ d .fixedFor (newOf m))
+      standing : (m : Envelope) → Replied s d m (Fixed (newOf m) (setOf m))
+          → ((set : ℕ) → reserved d (newOf m) ≡ Held (oldOf m) set → m .tag ≡ d .fixedFor (newOf m))
           → (set : ℕ) → HeldAfter d a (tagOf taken) (after .fixedFor (newOf m)) (newOf m) (oldOf m) set → m .tag ≡ after .fixedFor (newOf m)
       standing m replied of set (kept was same) = of set was ∙ sym same
       standing m replied of set (made t number id fixed same) =

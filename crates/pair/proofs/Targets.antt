@@ -6,7 +6,7 @@ use mathlib.Core.Bool.{true, false, true≢false}
 use mathlib.Core.List.{List}
 use mathlib.Core.Logic.{⊎-elim}
 use mathlib.Core.Option.{Option}
-use borrow.Author.Tests.{eqb-true, eqb-false, eq-eqb, ne-eqb}
+use borrow.Author.Tests.{eqb-true, eqb-false, eq-eqb}
 use native.Mathlib.Omega.{arith}
 use lib.Dec.{eqb}
 use Rattle.laws.proofs.Tests.{by-cases}
@@ -15,10 +15,11 @@ use Rattle.table.proofs.Interface.{to-means}
 use Rattle.table.specs.declared.Answer.{Answer}
 use Rattle.table.specs.declared.Station.{Station}
 use Rattle.table.specs.Views.{Held, held, sent, to, Shrinks, Grants, Denies, Arrives, Target, grants, denies, arrives, holds}
-use Rattle.pair.specs.World.{Side, Answered, Silent, Envelope, took, tagOf, belongs, Recent}
+use Rattle.pair.specs.World.{Side, Answered, Silent, Envelope, took, tagOf, limit, Recent}
+use Rattle.pair.proofs.Tests.{clash}
 use Rattle.pair.proofs.Taking.{carries-request, taken-of, took-of, first-of}
 use Rattle.pair.proofs.Directions.{Direction, targetAfter, TargetStep}
-use Rattle.pair.proofs.Invariant.{kindOf, oldOf, reserved, Requested, Invariant}
+use Rattle.pair.proofs.Invariant.{kindOf, oldOf, reserved, Invariant}
 
 -- ---- which of the four it is shows in the message that is sent
 
@@ -47,19 +48,6 @@ module _ {p : ℕ} {y : Station} {e : Record} {a : Answer} where
   shrinking (arrives x) t = x .shrinks
   shrinking (holds x) t = x .shrinks
 
--- ---- to which handover an answer or a release belongs
-
-module _ (issue : ℕ) (taken : Option Envelope) (fixed : ℕ → ℕ) (m : Record) where
-  pub acknowledge-belongs : m .kind ≡ 2 → belongs issue taken fixed m ≡ tagOf taken
-  acknowledge-belongs two = rw (ne-eqb (m .kind) 1 (λ z. omega arith), eq-eqb (m .kind) 2 two)
-
-  pub failure-belongs : m .kind ≡ 3 → belongs issue taken fixed m ≡ tagOf taken
-  failure-belongs three = rw (ne-eqb (m .kind) 1 (λ z. omega arith), ne-eqb (m .kind) 2 (λ z. omega arith), eq-eqb (m .kind) 3 three)
-
-  pub release-belongs : m .kind ≡ 5 → belongs issue taken fixed m ≡ fixed (m .new .0)
-  release-belongs five =
-      rw (ne-eqb (m .kind) 1 (λ z. omega arith), ne-eqb (m .kind) 2 (λ z. omega arith), ne-eqb (m .kind) 3 (λ z. omega arith), eq-eqb (m .kind) 5 five)
-
 -- ---- a request, and a record held after the turn
 
 -- A request of a handover with this Old ID, as it is taken.
@@ -68,7 +56,7 @@ pub record RequestOf (d : Direction) (old h : ℕ) : Type 0 where
   pub latest : d .numbers .issueOf old ≡ h
   pub counted : h ≤ d .numbers .issuedCount
   pub numbered : d .numbers .numberOf h ≡ old
-  pub recent : d .numbers .issuedCount < h + 2000
+  pub recent : d .numbers .issuedCount < h + limit
   pub unanswered : d .handovers h .answer ≡ Silent
 
 -- A record is held that was held before, for the same handover, or the one that is granted, for the handover whose request was taken.
@@ -81,12 +69,12 @@ module _ {s : Side} {d : Direction} {e : Record} {a : Answer} {taken : Option En
   -- A request that was taken.
   pub request-of : (h : ℕ) → took 1 h taken ≡ true → RequestOf d (e .old .0) h
   request-of h t =
-      let found = took-of 1 h (d .back) e (d .requests) taken rest (x .comes) t in
+      let found = took-of 1 h (x .comes) t in
       let head = found .0 .first in
-      let requested : Requested s d head = first-of (λ m. kindOf m ≡ 1 → Requested s d m) (found .0) (i .requests) (found .1) in
-      let recent : Recent s (d .numbers) head = first-of (Recent s (d .numbers)) (found .0) (x .requests-recent) in
-      let old : e .old .0 ≡ oldOf head = carries-request (d .back) (head .message) e (found .0 .carries) (found .1) in
-      let tag : head .tag ≡ h = found .2 in
+      let requested = first-of (found .0) (i .requests) (found .0 .kind) in
+      let recent : Recent s (d .numbers) head = first-of (found .0) (x .requests-recent) in
+      let old : e .old .0 ≡ oldOf head = carries-request (found .0 .carries) (found .0 .kind) in
+      let tag : head .tag ≡ h = found .1 in
       let latest : d .numbers .issueOf (e .old .0) ≡ h = cc in
       let issued = i .issued (e .old .0) (rw latest (rw tag at (requested .named))) in
       record {
@@ -101,8 +89,8 @@ module _ {s : Side} {d : Direction} {e : Record} {a : Answer} {taken : Option En
   -- An event that is a request from the source was taken, and is that of the handover of the message.
   pub request-taken : e .kind ≡ 1 → e .neighbour ≡ d .back → took 1 (tagOf taken) taken ≡ true
   request-taken one from =
-      let t = taken-of 1 (d .back) e (d .requests) taken rest (omega arith) (omega arith) one from (x .comes) in
-      rw (t .is, eq-eqb (kindOf (t .first)) 1 (t .kind ∙ one), eq-eqb (t .first .tag) (t .first .tag) refl)
+      let t = taken-of 1 (omega arith) (omega arith) one from (x .comes) in
+      rw (t .is, eq-eqb (kindOf (t .first)) 1 (t .kind), eq-eqb (t .first .tag) (t .first .tag) refl)
 
   pub held-after : (n old set : ℕ) → held (a .station) (d .back) n ≡ Held old set
       → HeldAfter d a (tagOf taken) (targetAfter s d e a taken rest stamp issue .fixedFor n) n old set
@@ -116,7 +104,7 @@ module _ {s : Side} {d : Direction} {e : Record} {a : Answer} {taken : Option En
       (λ u. kept (sym (g .others n (eqb-false n (sent a .new .0) u)) ∙ now) (rw (t, u))))
       (λ t. ⊎-elim
       (λ same. kept (sym same ∙ now) (rw t))
-      (λ gone. let bad : _≡_ {A = ℕ} 0 1 = cc in absurd (omega arith))
+      (λ gone. clash (cc))
       (shrinking (x .step .target (d .back)) t n))
 
   -- An answer changes by a request only, and a request is not answered yet: so an answer once given stays.

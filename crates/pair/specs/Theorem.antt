@@ -19,6 +19,10 @@ pub record EndsOnce (k : Handover) : Type 0 where
   pub moved : (end ≡ 3) ↔ ((k .arrived ≡ true) × (k .came ≡ true))
   pub else : k .arrived ≡ true → k .came ≡ false → isOtherEnding end ≡ true
 
+-- "Nothing is under way."
+abbrev pub Empty : World → Type 0
+Empty w = (s : Side) → w .queue s ≡ []
+
 module _ (peer : Side → ℕ) where
   -- "A prepared handover carries" the New ID and the admitted set that the target "fixed for that very request": the source's record does.
   abbrev pub AsFixed : World → Side → Type 0
@@ -32,10 +36,6 @@ module _ (peer : Side → ℕ) where
     pub no-reservation : (i : ℕ) → held (w .station s) (peer s) i ≡ NotHeld
     pub no-outgoing : (i : ℕ) → out (w .station s) (peer s) i ≡ NotOut
     pub ended : (h : ℕ) → w .handovers s h .asked ≡ true → EndsOnce (w .handovers s h)
-
-  -- "Nothing is under way."
-  abbrev pub Empty : World → Type 0
-  Empty w = (s : Side) → w .queue s ≡ []
 
   -- A time that is "past every deadline" of a station's records of the other.
   abbrev pub Past : World → Side → ℕ → Type 0

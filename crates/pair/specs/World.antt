@@ -22,12 +22,12 @@ abbrev pub other : Side → Side
 other A = B
 other B = A
 
--- what each side has, with one side's value replaced
-abbrev pub put : {T : Type 0} → Side → T → (Side → T) → Side → T
-put A new old A = new
-put A new old B = old B
-put B new old A = old A
-put B new old B = new
+-- what one side has, and what the other has
+abbrev pub sides : {T : Type 0} → Side → T → T → Side → T
+sides A here there A = here
+sides A here there B = there
+sides B here there A = there
+sides B here there B = here
 
 -- ---- history: nothing of it is in a station or a message
 
@@ -37,6 +37,9 @@ pub record Numbers : Type 0 where
   pub issuedCount : ℕ
   pub issueOf : ℕ → ℕ
   pub numberOf : ℕ → ℕ
+
+abbrev pub nextIssue : Numbers → ℕ
+nextIssue n = n .issuedCount + 1
 
 -- What a target answered to a request: nothing, a failure, or an acknowledge with this New ID and this admitted set.
 pub data Answered : Type 0 where
@@ -80,9 +83,9 @@ abbrev pub issuing : Option ℕ → Numbers → Numbers
 issuing none n = n
 issuing (some i) n =
     record {
-      issuedCount = n .issuedCount + 1;
-      issueOf = λ j. cond (eqb j i) (n .issuedCount + 1) (n .issueOf j);
-      numberOf = λ h. cond (eqb h (n .issuedCount + 1)) i (n .numberOf h);
+      issuedCount = nextIssue n;
+      issueOf = λ j. cond (eqb j i) (nextIssue n) (n .issueOf j);
+      numberOf = λ h. cond (eqb h (nextIssue n)) i (n .numberOf h);
     }
 
 -- The record of a handover, among the outgoing ones: the one that has its own ID, if no later issue gave the same.
@@ -108,7 +111,7 @@ tagOf (some m) = m .tag
 abbrev pub atSource : ℕ → Station → Answer → Option Envelope → Numbers → ℕ → Handover → Handover
 atSource p x a taken n h k =
     record {
-      asked = k .asked || (to 1 p a && eqb h (n .issuedCount + 1));
+      asked = k .asked || (to 1 p a && eqb h (nextIssue n));
       answer = k .answer;
       arrived = k .arrived;
       came = k .came || (took 5 h taken && isPrepared (recordOf n (out x p) h));
@@ -141,15 +144,22 @@ belongs issue taken fixed m =
     cond (eqb (m .kind) 1) issue
     (cond (eqb (m .kind) 2 || eqb (m .kind) 3) (tagOf taken) (cond (eqb (m .kind) 5) (fixed (m .new .0)) 0))
 
--- What is put under way: a message to the other station. Kind 20 goes to the MME, and is not.
-abbrev pub posted : ℕ → Answer → ℕ → (Side → ℕ) → List Envelope
-posted p a tag stamp =
-    cond (leb 1 (sent a .kind) && leb (sent a .kind) 8 && eqb (sent a .neighbour) p) (record { message = sent a; tag = tag; stamp = stamp } ∷ []) []
+-- the message that a step sends, in its envelope
+abbrev pub letter : Answer → ℕ → Option Envelope → (ℕ → ℕ) → (Side → ℕ) → Envelope
+letter a issue taken fixed stamp = record { message = sent a; tag = belongs issue taken fixed (sent a); stamp = stamp }
+
+-- A message (kinds 1 to 8) with a neighbour's number: it comes from that neighbour, or goes to it. Kind 20 goes to the MME, and is none.
+abbrev pub isMessage : ℕ → Record → Bool
+isMessage p m = leb 1 (m .kind) && leb (m .kind) 8 && eqb (m .neighbour) p
+
+-- what is put under way: a message to the other station
+abbrev pub posted : ℕ → Envelope → List Envelope
+posted p m = cond (isMessage p (m .message)) (m ∷ []) []
 
 -- ---- steps; `peer s` is the number under which station s knows the other one
 
 abbrev pub issuedAfter : World → Side → Answer → Side → Numbers
-issuedAfter w s a = put s (issuing (issued a) (w .numbers s)) (w .numbers)
+issuedAfter w s a = sides s (issuing (issued a) (w .numbers s)) (w .numbers (other s))
 
 module _ (peer : Side → ℕ) where
   -- One station answers an event, with the message that it took, if it did, and what is left under way to it. It is the source of
@@ -157,16 +167,17 @@ module _ (peer : Side → ℕ) where
   abbrev pub act : World → Side → Record → Answer → Option Envelope → List Envelope → World
   act w s e a taken rest =
       record {
-        station = put s (a .station) (w .station);
+        station = sides s (a .station) (w .station (other s));
         queue =
-            put s
-            (w .queue s ++ posted (peer s) a (belongs (w .numbers s .issuedCount + 1) taken (w .fixedFor (other s)) (sent a)) (λ r. issuedAfter w s a r .issuedCount))
-            (put (other s) rest (w .queue));
+            sides s
+            (w .queue s ++ posted (peer s) (letter a (nextIssue (w .numbers s)) taken (w .fixedFor (other s)) (λ r. issuedAfter w s a r .issuedCount)))
+            rest;
         numbers = issuedAfter w s a;
-        fixedFor = put (other s) (fixing (peer s) a taken (w .fixedFor (other s))) (w .fixedFor);
+        fixedFor = sides s (w .fixedFor s) (fixing (peer s) a taken (w .fixedFor (other s)));
         handovers =
-            put s (λ h. atSource (peer s) (w .station s) a taken (w .numbers s) h (w .handovers s h))
-            (put (other s) (λ h. atTarget (peer s) (w .station s) e a taken (w .fixedFor (other s)) h (w .handovers (other s) h)) (w .handovers));
+            sides s
+            (λ h. atSource (peer s) (w .station s) a taken (w .numbers s) h (w .handovers s h))
+            (λ h. atTarget (peer s) (w .station s) e a taken (w .fixedFor (other s)) h (w .handovers (other s) h));
       }
 
 -- "It arrives unaltered if it reaches the peer with the same Old ID" (its bearers are left open here, and so is all else); "in every other
@@ -195,13 +206,10 @@ pub data Carries (p : ℕ) (m : Record) (e : Record) : Type 0 where
   request : m .kind ≡ 1 → e .kind ≡ 1 → e .neighbour ≡ p → e .old .0 ≡ m .old .0 → Carries p m e
   plain : (m .kind ≡ 1 → ⊥) → e ≡ asSent p m → Carries p m e
 
--- "Known by a number nobody else uses": a message event (kinds 1 to 8) that has it is a message of the other station, and every other event
--- comes at any time. "In order, at most once": it is the oldest under way, which then is gone.
-abbrev pub isFrom : ℕ → Record → Bool
-isFrom p e = leb 1 (e .kind) && leb (e .kind) 8 && eqb (e .neighbour) p
-
+-- "Known by a number nobody else uses": a message event that has it is a message of the other station, and every other event comes at any
+-- time. "In order, at most once": it is the oldest under way, which then is gone.
 pub data Comes (p : ℕ) (e : Record) (queue : List Envelope) : Option Envelope → List Envelope → Type 0 where
-  own : isFrom p e ≡ false → Comes p e queue none queue
+  own : isMessage p e ≡ false → Comes p e queue none queue
   take : {m : Envelope} {rest : List Envelope} → queue ≡ m ∷ rest → Carries p (m .message) e → Comes p e queue (some m) rest
 
 -- what holds of every entry of a list
@@ -210,8 +218,11 @@ pub data All {T : Type 0} (P : T → Type 0) : List T → Type 0 where
   more : {x : T} {xs : List T} → P x → All P xs → All P (x ∷ xs)
 
 -- "Neither issues 2,000 numbers" while a message is under way: each counted for itself, in every world, for every message still under way.
+abbrev pub limit : ℕ
+limit = 2000
+
 abbrev pub Recent : Side → Numbers → Envelope → Type 0
-Recent s n m = n .issuedCount < m .stamp s + 2000
+Recent s n m = n .issuedCount < m .stamp s + limit
 
 abbrev pub Bounded : World → Type 0
 Bounded w = (r s : Side) → All (Recent s (w .numbers s)) (w .queue r)
@@ -219,7 +230,15 @@ Bounded w = (r s : Side) → All (Recent s (w .numbers s)) (w .queue r)
 -- other messages of one side under way
 abbrev pub withQueue : World → Side → List Envelope → World
 withQueue w s messages =
-    record { station = w .station; queue = put s messages (w .queue); numbers = w .numbers; fixedFor = w .fixedFor; handovers = w .handovers }
+    record { station = w .station; queue = sides s messages (w .queue (other s)); numbers = w .numbers; fixedFor = w .fixedFor; handovers = w .handovers }
+
+-- A message "may be lost", wherever it stands.
+pub record Loses (w : World) (s : Side) (w' : World) : Type 0 where
+  pub older : List Envelope
+  pub lost : Envelope
+  pub younger : List Envelope
+  pub was : w .queue s ≡ older ++ (lost ∷ younger)
+  pub becomes : w' ≡ withQueue w s (older ++ younger)
 
 -- "Two fresh stations", of any settings: nothing is under way, and there is no history.
 abbrev pub start : (Side → Station) → World
@@ -251,14 +270,6 @@ module _ (peer : Side → ℕ) where
     pub comes : Comes (peer s) e (w .queue (other s)) taken rest
     pub becomes : w' ≡ act peer w s e a taken rest
     pub bounded : Bounded w'
-
-  -- A message "may be lost", wherever it stands.
-  pub record Loses (w : World) (s : Side) (w' : World) : Type 0 where
-    pub older : List Envelope
-    pub lost : Envelope
-    pub younger : List Envelope
-    pub was : w .queue s ≡ older ++ (lost ∷ younger)
-    pub becomes : w' ≡ withQueue w s (older ++ younger)
 
   pub data Step (w w' : World) : Type 0 where
     acts : (s : Side) (e : Record) (a : Answer) → Acts w s e a w' → Step w w'

@@ -1,12 +1,12 @@
 -- The event lies within the script, and the station that answers it is one that a fresh one reaches.
-use Prim.Native.Nat.{_+_, _-_, _≤_}
-use mathlib.Core.Path.{sym, ap, subst, _∙_}
+use Prim.Native.Nat.{ℕ, _+_, _-_, _≤_}
+use mathlib.Core.Path.{ap, _∙_}
 use native.Mathlib.Omega.{arith}
 use lib.ListN.{length, take, drop, length-take, length-drop}
+use mathlib.Core.List.{List}
 use Rattle.records.proofs.RoundTrip.{bytes-take, bytes-drop}
-use Rattle.table.specs.declared.Answer.{Answer}
 use Rattle.table.specs.Reached.{Reached}
-use Rattle.lines.specs.Lines.{answerTo, sizeOf}
+use Rattle.lines.specs.Lines.{sizeOf}
 use Rattle.lines.proofs.Going.{within, still-reached}
 use borrow.Author.Needs.{needs}
 use Rattle.cases.proofs.answer.Statement.{statement}
@@ -57,28 +57,36 @@ cast-count-2 c = search needs
 count-requires-2 : tie.Need-count-requires-2
 count-requires-2 c κs = search needs
 
+-- the arguments, and the script from the event on, as seen from the place after its answer
+abbrev start : tie.After-answered → tie.Start
+start c = c .before .before .before .before .before .before .before .before .before .before .before
+
+abbrev rest : tie.After-answered → List ℕ
+rest c = let script = start c .args .script .now in take (length script - start c .args .c .at) (drop (start c .args .c .at) script)
+
 -- the event lies within the script
-ahead : (c : tie.After-size-of) → c .before .before .before .before .before .before .before .before .before .before .before .before .before .before .before .before .args .c .at + c .size-of .result ≤ length (c .before .before .before .before .before .before .before .before .before .before .before .before .before .before .before .before .args .script .now)
+ahead : (c : tie.After-size-of)
+    → start (c .before .before .before .before .before) .args .c .at + c .size-of .result ≤ length (start (c .before .before .before .before .before) .args .script .now)
 ahead c =
-    let start = c .before .before .before .before .before .before .before .before .before .before .before .before .before .before .before .before in
-    let script = start .args .script .now in
-    let at = start .args .c .at in
-    let rest = take (length script - at) (drop at script) in
-    omega (arith, c .size-of .ensures ∙ ap sizeOf (c .before .before .before .before .before .before .before .before .cut .ensures), within rest, length-take (length script - at) (drop at script), length-drop at script, start .pre .at)
+    let answered = c .before .before .before .before .before in
+    let script = start answered .args .script .now in
+    let at = start answered .args .c .at in
+    let size = c .size-of .ensures ∙ ap sizeOf (answered .before .before .before .cut .ensures) in
+    omega (arith, start answered .pre .at, within (rest answered), length-take (length script - at) (drop at script), length-drop at script)
 
 -- the station that answers is reached
 reached : (c : tie.After-answered) → Reached (c .answered .result .station)
 reached c =
-    let start = c .before .before .before .before .before .before .before .before .before .before .before in
-    let script = start .args .script .now in
-    let at = start .args .c .at in
-    let rest = take (length script - at) (drop at script) in
-    let room = length (take (c .before .before .before .before .before .count .result) (start .args .verdicts .now)) in
+    let script = start c .args .script .now in
+    let at = start c .args .c .at in
+    let station = start c .args .c .station in
+    let room = length (take (c .before .before .before .before .before .count .result) (start c .args .verdicts .now)) in
     let known = bytes-take (length script - at) (drop at script) (bytes-drop at script (λ i. c .before .before .before .before .before .before .before .before .before .before .shared-slice-known .given i .fits)) in
-    subst (λ (a : Answer). Reached (a .station)) (sym (c .answered .ensures .0 ∙ ap (answerTo room (start .args .c .station) rest) (c .before .before .before .cut .ensures))) (still-reached room (start .args .c .station) rest (start .pre .reached) known)
+    rw (c .answered .ensures .0, c .before .before .before .cut .ensures)
+    (still-reached room station (rest c) (start c .pre .reached) known)
 
 add-t18 : tie.Need-add-t18
-add-t18 c = omega (arith, ahead (c .before .before), c .before .before .before .before .before .before .before .before .before .before .before .before .before .before .before .before .before .before .good)
+add-t18 c = omega (arith, ahead (c .before .before), start (c .before .before .before .before .before .before .before) .good)
 
 counted-requires : tie.Need-counted-requires
 counted-requires c κs = search needs
@@ -90,7 +98,9 @@ slice-aggregate-onward : tie.Need-slice-aggregate-onward
 slice-aggregate-onward c = search needs
 
 onward-requires : tie.Need-onward-requires
-onward-requires c κs = record { reached = reached (c .before .before .before .before .before .before .before .before .before); at = ahead (c .before .before .before .before); first = c .before .before .before .before .before .before .before .before .before .before .before .before .before .before .before .before .before .before .before .before .pre .first }
+onward-requires c κs =
+    let answered = c .before .before .before .before .before .before .before .before .before in
+    record { reached = reached answered; at = ahead (c .before .before .before .before); first = start answered .pre .first }
 
 same-length : tie.Need-same-length
 same-length c = search needs

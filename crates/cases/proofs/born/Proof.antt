@@ -1,9 +1,7 @@
 -- A station that was born is one that a fresh one reaches.
 use Prim.Native.Nat.{_/_, _%_}
-use mathlib.Core.Path.{sym, subst}
 use native.Mathlib.Omega.{arith}
-use Rattle.table.specs.declared.Birth.{Birth}
-use Rattle.table.specs.Reached.{Reached, born}
+use Rattle.table.specs.Reached.{born}
 use borrow.Author.Needs.{needs}
 use Rattle.cases.proofs.born.Statement.{statement}
 use Rattle.cases.proofs.born.Tie as tie
@@ -29,7 +27,11 @@ field-requires c κs = search needs
 returns : tie.Need-returns
 returns c =
     let r = c .before .before .before .before .before .before .before .args .r in
-    record { reached = subst (λ (b : Birth). Reached (b .station)) (sym (c .before .before .before .before .new .ensures)) (born (r .number) (r .time % 4294967296) (r .time / 4294967296) (r .bytes28)); at = omega arith; first = omega arith }
+    record {
+      reached = rw (c .before .before .before .before .new .ensures) (born (r .number) (r .time % 4294967296) (r .time / 4294967296) (r .bytes28));
+      at = omega arith;
+      first = omega arith;
+    }
 
 pub born-spec : {M : Type 1} → statement M
 born-spec =

@@ -1,13 +1,11 @@
 -- The case stays sound; the turns left fall.
 use Prim.Native.Nat.{_≤_}
-use mathlib.Core.Path.{sym, subst}
 use borrow.Author.Tests.{ltb-true}
 use native.Mathlib.Omega.{arith}
 use lib.Dec.{ltb}
 use lib.ListN.{length}
 use Rattle.laws.proofs.Tests.{both-true}
-use Rattle.table.specs.declared.Birth.{Birth}
-use Rattle.table.specs.Reached.{Reached, born}
+use Rattle.table.specs.Reached.{born}
 use Rattle.cases.specs.Scripts.{Sound}
 use Rattle.cases.proofs.play.Statement.{statement}
 use Rattle.cases.proofs.play.Tie as tie
@@ -22,14 +20,17 @@ new-requires : tie.Need-new-requires Inv-loop μ-loop
 new-requires c κs = tt
 
 loop-holds : tie.Need-loop-holds Inv-loop μ-loop
-loop-holds c = record { reached = subst (λ (b : Birth). Reached (b .station)) (sym (c .before .new .ensures)) (born 0 1 1 1); at = omega arith; first = omega arith }
+loop-holds c = record { reached = rw (c .before .new .ensures) (born 0 1 1 1); at = omega arith; first = omega arith }
 
 turn-requires : tie.Need-turn-requires Inv-loop μ-loop
 turn-requires c κs = c .before .before .loop .inv
 
 -- a turn is left
 some : (c : tie.After-turn Inv-loop μ-loop) → 1 ≤ c .before .before .before .loop .turns
-some c = ltb-true 0 (c .before .before .before .loop .turns) (both-true (ltb (c .before .before .before .loop .c .at) (length (c .before .before .before .before .before .before .before .args .script .now))) (ltb 0 (c .before .before .before .loop .turns)) (c .before .if1 .taken) .1)
+some c =
+    let now = c .before .before .before .loop in
+    let script = c .before .before .before .before .before .before .before .args .script .now in
+    ltb-true 0 (now .turns) (both-true (ltb (now .c .at) (length script)) _ (c .before .if1 .taken) .1)
 
 sub-turns : tie.Need-sub-turns Inv-loop μ-loop
 sub-turns c = some c

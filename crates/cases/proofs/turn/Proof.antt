@@ -31,7 +31,7 @@ fits bytes at read r given what =
     (fits-by (at + 32 ≤ length bytes) (recordOf (take 32 (drop at bytes))) (roomAt bytes at) (leb-true (at + 32) (length bytes)))
 
 further : (next size : ℕ) (c : Case) → next ≤ size → Sound next c → Sound size c
-further next size c h s = record { reached = s .reached; at = omega (arith, s .at, h); first = omega (arith, s .first, h) }
+further next size c h s = record { reached = s .reached; at = omega arith; first = omega arith }
 
 read-requires : tie.Need-read-requires
 read-requires c κs = search needs
@@ -40,10 +40,12 @@ enum-known-read : tie.Need-enum-known-read
 enum-known-read c = search needs
 
 within : (c : tie.After-known-told) → c .before .before .before .before .before .args .c .at + 32 ≤ length (c .before .before .before .before .before .args .script .now)
-within c = fits (c .before .before .before .before .before .args .script .now) (c .before .before .before .before .before .args .c .at) _ _ (c .before .before .before .read .ensures) (c .before .read2 .given .1)
+within c =
+    let start = c .before .before .before .before .before .args in
+    fits (start .script .now) (start .c .at) _ _ (c .before .before .before .read .ensures) (c .before .read2 .given .1)
 
 add-next : tie.Need-add-next
-add-next c = omega (arith, within c, c .before .before .before .before .before .good)
+add-next c = omega (arith, within c)
 
 begun-requires : tie.Need-begun-requires
 begun-requires c κs = search needs

@@ -1,6 +1,6 @@
 -- Each case of the piece is a step of the station; a request's bearers are the bytes between its record and the next event.
 use Prim.Native.Nat.{ℕ, _-_, min, max}
-use mathlib.Core.Path.{_≡_, _∙_, sym, ap}
+use mathlib.Core.Path.{_≡_, refl, _∙_, sym}
 use mathlib.Core.List.{List, []}
 use borrow.Author.Tests.{leb-true, leb-false}
 use native.Mathlib.Omega.{arith}
@@ -8,10 +8,6 @@ use lib.Dec.{leb}
 use lib.ListN.{length, take, drop, length-drop, drop-of-length-le}
 use lib.Seq.{take-all, take-nil}
 use Rattle.laws.proofs.Tests.{by-cases}
-use Rattle.records.specs.declared.Record.{Record}
-use Rattle.records.specs.declared.stream.Piece.{Piece}
-use Rattle.table.specs.Step.{stepOf, verdictsOf}
-use Rattle.lines.specs.Lines.{answerTo, verdictsTo}
 use borrow.Author.Needs.{needs}
 use Rattle.lines.proofs.answered.Statement.{statement}
 use Rattle.lines.proofs.answered.Tie as tie
@@ -65,57 +61,49 @@ request-requires : tie.Need-request-requires
 request-requires c κs = search needs
 
 -- the part between a record and the next event, also where that is no place of the bytes
-between : (bytes : List ℕ) (next from end to : ℕ) → from ≡ min 32 (length bytes) → end ≡ min next (length bytes) → to ≡ max from end → take (to - from) (drop from bytes) ≡ take (next - 32) (drop 32 bytes)
+between : (bytes : List ℕ) (next from end to : ℕ) → from ≡ min 32 (length bytes) → end ≡ min next (length bytes) → to ≡ max from end
+    → take (to - from) (drop from bytes) ≡ take (next - 32) (drop 32 bytes)
 between bytes next from end to f e t =
     by-cases (leb 32 (length bytes))
     (λ u.
     let long = leb-true 32 (length bytes) u in
-    let first : from ≡ 32 = omega (arith, f, long) in
+    let first : from ≡ 32 = omega arith in
     by-cases (leb next (length bytes))
-    (λ v. let size : to - from ≡ next - 32 = omega (arith, first, e, t, leb-true next (length bytes) v) in rw (size, first))
+    (λ v. let size : to - from ≡ next - 32 = omega (arith, leb-true next (length bytes) v) in rw (size, first))
     (λ v.
     let beyond = leb-false next (length bytes) v in
     rw first
-    (take-all (to - 32) (drop 32 bytes) (omega (arith, length-drop 32 bytes, e, t, beyond))
-    ∙ sym (take-all (next - 32) (drop 32 bytes) (omega (arith, length-drop 32 bytes, beyond))))))
+    (take-all (to - 32) (drop 32 bytes) (omega (arith, length-drop 32 bytes))
+    ∙ sym (take-all (next - 32) (drop 32 bytes) (omega (arith, length-drop 32 bytes))))))
     (λ u.
     let short = leb-false 32 (length bytes) u in
-    let here : drop from bytes ≡ [] = drop-of-length-le bytes {i = from} (omega (arith, f, short)) in
-    let there : drop 32 bytes ≡ [] = drop-of-length-le bytes {i = 32} (omega (arith, short)) in
+    let here : drop from bytes ≡ [] = drop-of-length-le bytes {i = from} (omega arith) in
+    let there : drop 32 bytes ≡ [] = drop-of-length-le bytes {i = 32} (omega arith) in
     rw (here, there) (take-nil (to - from) ∙ sym (take-nil (next - 32))))
 
 returns : tie.Need-returns
-returns c =
-    let start = c .before .before .before .before .before .before .args in
-    let nothing = c .before .before .enum-told .given .1 in
-    (c .step .ensures ∙ ap (λ (e : Record). stepOf (start .station) e [] 0) (c .before .zeros .ensures) ∙ sym (ap (answerTo (length (start .verdicts .now)) (start .station) (start .bytes .now)) nothing), sym (ap (λ (p : Piece). verdictsTo (start .station) (start .bytes .now) p (start .verdicts .now)) nothing))
+returns c = rw (c .before .before .enum-told .given .1) (rw (c .before .zeros .ensures) at (c .step .ensures), refl)
 
 returns-2 : tie.Need-returns-2
-returns-2 c =
-    let start = c .before .before .before .before .before .before .args in
-    let short = c .before .before .enum-told2 .given .1 in
-    (c .step2 .ensures ∙ ap (λ (e : Record). stepOf (start .station) e [] 0) (c .before .zeros2 .ensures) ∙ sym (ap (answerTo (length (start .verdicts .now)) (start .station) (start .bytes .now)) short), sym (ap (λ (p : Piece). verdictsTo (start .station) (start .bytes .now) p (start .verdicts .now)) short))
+returns-2 c = rw (c .before .before .enum-told2 .given .1) (rw (c .before .zeros2 .ensures) at (c .step2 .ensures), refl)
 
 returns-3 : tie.Need-returns-3
-returns-3 c =
-    let start = c .before .before .before .before .before .before .args in
-    let single = c .before .before .piece .given .1 in
-    (c .step3 .ensures ∙ sym (ap (answerTo (length (start .verdicts .now)) (start .station) (start .bytes .now)) single), sym (ap (λ (p : Piece). verdictsTo (start .station) (start .bytes .now) p (start .verdicts .now)) single))
+returns-3 c = rw (c .before .before .piece .given .1) (c .step3 .ensures, refl)
 
 same-length : tie.Need-same-length
 same-length c = search needs
 
 returns-4 : tie.Need-returns-4
 returns-4 c =
-    let start = c .before .before .before .before .before .before .before .before .before .before .before .before .before .args in
-    let station = start .station in
-    let bytes = start .bytes .now in
-    let verdicts = start .verdicts .now in
+    let request = c .before .before .request in
     let piece = c .before .before .before .before .before .before .before .before .before .piece2 .given in
-    let same = between bytes (piece .0 .1 .0) _ _ _ (c .before .before .before .before .before .before .before .least .ensures) (c .before .before .before .before .before .before .least2 .ensures) (c .before .before .before .before .before .greatest .ensures) in (
-      c .before .before .request .ensures .0 ∙ ap (λ (part : List ℕ). stepOf station (piece .0 .0) part (length verdicts)) same ∙ sym (ap (answerTo (length verdicts) station bytes) (piece .1)),
-      c .before .before .request .ensures .1 ∙ ap (λ (part : List ℕ). verdictsOf station (piece .0 .0) part verdicts) same ∙ sym (ap (λ (p : Piece). verdictsTo station bytes p verdicts) (piece .1)),
-    )
+    let same =
+    between (c .before .before .before .before .before .before .before .before .before .before .before .before .before .args .bytes .now) (piece .0 .1 .0) _ _ _
+    (c .before .before .before .before .before .before .before .least .ensures)
+    (c .before .before .before .before .before .before .least2 .ensures)
+    (c .before .before .before .before .before .greatest .ensures)
+    in
+    rw (piece .1) (rw same at (request .ensures .0), rw same at (request .ensures .1))
 
 pub answered-spec : {M : Type 1} → statement M
 answered-spec =

@@ -36,11 +36,11 @@ moved taken held end i block block₀ e h same =
     ∙ ap (λ (l : List ℕ). getD l taken 0) same
     ∙ getD-drop i block₀ taken 0
     ∙ ap (λ (k : ℕ). getD block₀ k 0) (sym swap)
-    ∙ sym (getD-take held block₀ (taken + i) 0 (omega (arith, e, h)))
+    ∙ sym (getD-take held block₀ (taken + i) 0 (omega arith))
     ∙ sym (getD-drop taken (take held block₀) i 0)
     in (
       drop-set-lt (i + 1) block i _ (omega arith) ∙ sym (drop-drop 1 i block) ∙ ap (drop 1) same ∙ drop-drop 1 i block₀,
-      rw (drop-cons left i 0 (omega (arith, left-length taken held end block₀ e, h)), add-one i, value),
+      rw (drop-cons left i 0 (omega (arith, left-length taken held end block₀ e)), add-one i, value),
     )
 
 least-requires : tie.Need-least-requires Inv-loop μ-loop
@@ -48,7 +48,7 @@ least-requires c κs = tt
 
 -- nothing is left
 none : (taken held end : ℕ) (block : List ℕ) → end ≡ min held (length block) → end ≤ taken → leftIn taken held block ≡ []
-none taken held end block e h = drop-of-length-le (take held block) {i = taken} (omega (arith, length-take held block, e, h))
+none taken held end block e h = drop-of-length-le (take held block) {i = taken} (omega (arith, length-take held block))
 
 returns : tie.Need-returns Inv-loop μ-loop
 returns c =
@@ -57,32 +57,32 @@ returns c =
     (sym (ap length nothing), sym (ap (sets (start .block .now) 0) nothing))
 
 sub-left : tie.Need-sub-left Inv-loop μ-loop
-sub-left c = omega (arith, c .if1 .left)
+sub-left c = omega arith
 
 loop-holds : tie.Need-loop-holds Inv-loop μ-loop
 loop-holds c = (omega arith, refl, refl, refl)
 
 add-block : tie.Need-add-block Inv-loop μ-loop
-add-block c = omega (arith, c .loop-test .taken, c .before .before .before .least .ensures, c .before .before .before .before .before .good)
+add-block c = omega arith
 
 slice-read-block : tie.Need-slice-read-block Inv-loop μ-loop
-slice-read-block c = omega (arith, c .before .loop-test .taken, c .before .before .before .before .least .ensures, c .before .before .loop .inv .1)
+slice-read-block c = omega arith
 
 slice-write-block : tie.Need-slice-write-block Inv-loop μ-loop
-slice-write-block c = omega (arith, c .before .loop-test .taken, c .before .before .before .before .least .ensures, c .before .before .loop .inv .1)
+slice-write-block c = omega arith
 
 add-i : tie.Need-add-i Inv-loop μ-loop
-add-i c = omega (arith, c .before .loop-test .taken, c .before .before .before .before .least .ensures, c .before .before .before .before .before .before .good)
+add-i c = omega arith
 
 loop-less : tie.Need-loop-less Inv-loop μ-loop
-loop-less c = omega (arith, c .before .loop-test .taken)
+loop-less c = omega arith
 
 loop-again : tie.Need-loop-again Inv-loop μ-loop
 loop-again c =
     let start = c .before .before .before .before .before .before .args in
     let now = c .before .before .loop in
     let on = moved (start .taken) (start .held) _ (now .i) (now .block) (start .block .now) (c .before .before .before .before .least .ensures) (c .before .loop-test .taken) (now .inv .2) in
-    (omega (arith, c .before .loop-test .taken), length-set (now .block) _ _ ∙ now .inv .1, on .0, on .1 ∙ now .inv .3)
+    (omega arith, length-set (now .block) _ _ ∙ now .inv .1, on .0, on .1 ∙ now .inv .3)
 
 same-length : tie.Need-same-length Inv-loop μ-loop
 same-length c = c .before .loop .inv .1
@@ -93,7 +93,7 @@ returns-2 c =
     let left = leftIn (start .taken) (start .held) (start .block .now) in
     let long = left-length (start .taken) (start .held) _ (start .block .now) (c .before .before .before .least .ensures) in
     let now = c .before .loop in
-    let all : drop (now .i) left ≡ [] = drop-of-length-le left {i = now .i} (omega (arith, long, c .loop-test .left)) in
+    let all : drop (now .i) left ≡ [] = drop-of-length-le left {i = now .i} (omega arith) in
     (sym long, rw all at (now .inv .3))
 
 pub carry-spec : {M : Type 1} → statement M

@@ -1,8 +1,4 @@
 -- Each case of a piece is that of the definition; a request lies within the bytes that are left.
-use mathlib.Core.Path.{sym, ap, subst}
-use Prim.Native.Nat.{_≤_}
-use Rattle.records.specs.declared.stream.Piece.{Piece}
-use Rattle.lines.specs.Lines.{sizeOf, isWhole}
 use borrow.Author.Needs.{needs}
 use Rattle.lines.proofs.is_whole.Statement.{statement}
 use Rattle.lines.proofs.is_whole.Tie as tie
@@ -29,7 +25,7 @@ add-result : tie.Need-add-result
 add-result c = search needs
 
 sub-result : tie.Need-sub-result
-sub-result c = subst (λ (p : Piece). sizeOf p ≤ c .before .before .before .before .args .left) (c .before .before .piece .given .1) (c .before .before .before .before .pre)
+sub-result c = rw (c .before .before .piece .given .1) at (c .before .before .before .before .pre)
 
 returns : tie.Need-returns
 returns c = search needs
@@ -41,7 +37,7 @@ returns-3 : tie.Need-returns-3
 returns-3 c = search needs
 
 returns-4 : tie.Need-returns-4
-returns-4 c = sym (ap (isWhole (c .before .before .before .before .args .ended) (c .before .before .before .before .args .left)) (c .before .before .piece .given .1))
+returns-4 c = rw (c .before .before .piece .given .1)
 
 pub is-whole-spec : {M : Type 1} → statement M
 is-whole-spec =

@@ -39,7 +39,7 @@ cell-requires : tie.Need-cell-requires
 cell-requires c κs =
     let start = c .before .before .before .before .before .before .before .before .before .before .before .before .before .before .before .before .before in
     let written = c .before .before .before .before .cells in
-    omega (arith, start .pre, written .ensures .0, written .kept .1 .0, spaced-most (firstEight (start .args .place) (start .args .o)))
+    omega (arith, spaced-most (firstEight (start .args .place) (start .args .o)))
 
 same-length : tie.Need-same-length
 same-length c = search needs
@@ -49,7 +49,11 @@ returns c =
     let start = c .before .before .before .before .before .before .before .before .before .before .before .before .before .before .before .before .before .before .before .before in
     let written = c .before .before .before .before .before .before .before .cells in
     let o = start .args .o in
-    joined (start .args .out .now) _ _ (start .args .at) _ _ (spaced (firstEight (start .args .place) o)) (cell (o .ending) 10) (written .ensures .0) (written .ensures .1) (c .before .before .cell .ensures .0) (c .before .before .cell .ensures .1)
+    joined (start .args .out .now) _ _ (start .args .at) _ _ (spaced (firstEight (start .args .place) o)) (cell (o .ending) 10)
+    (written .ensures .0)
+    (written .ensures .1)
+    (c .before .before .cell .ensures .0)
+    (c .before .before .cell .ensures .1)
 
 pub line-spec : {M : Type 1} → statement M
 line-spec =

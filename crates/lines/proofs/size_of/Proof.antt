@@ -1,6 +1,4 @@
 -- Each case of a piece is that of the definition.
-use mathlib.Core.Path.{sym, ap}
-use Rattle.lines.specs.Lines.{sizeOf}
 use borrow.Author.Needs.{needs}
 use Rattle.lines.proofs.size_of.Statement.{statement}
 use Rattle.lines.proofs.size_of.Tie as tie
@@ -24,10 +22,10 @@ returns-2 : tie.Need-returns-2
 returns-2 c = search needs
 
 returns-3 : tie.Need-returns-3
-returns-3 c = sym (ap sizeOf (c .before .piece2 .given .1))
+returns-3 c = rw (c .before .piece2 .given .1)
 
 returns-4 : tie.Need-returns-4
-returns-4 c = sym (ap sizeOf (c .before .piece3 .given .1))
+returns-4 c = rw (c .before .piece3 .given .1)
 
 pub size-of-spec : {M : Type 1} → statement M
 size-of-spec =

@@ -1,6 +1,6 @@
 -- The answer stays within the buffers, and what is carried is no more than was held.
-use Prim.Native.Nat.{ℕ, _≤_}
-use mathlib.Core.Path.{sym, subst}
+use Prim.Native.Nat.{_≤_}
+use mathlib.Core.Path.{sym}
 use lib.ListN.{length, take}
 use lib.Seq.{length-take-le}
 use Rattle.records.proofs.RoundTrip.{bytes-take}
@@ -19,14 +19,22 @@ slice-aggregate-answer c = sym (length-take-le _ _ (c .before .before .before .b
 answer-requires : tie.Need-answer-requires
 answer-requires c κs = search needs
 
+-- the arguments, as seen from the place after the answer
+abbrev start : tie.After-answer → tie.Start
+start c = c .before .before .before .before .before .before
+
 -- the run stays within the block and the buffer
-within : (c : tie.After-answer) → Reached (c .answer .result .run .station) × (c .answer .result .taken ≤ length (take (c .before .before .before .before .before .before .args .s .held) (c .before .before .before .before .before .before .args .input .now))) × (c .answer .result .written ≤ length (c .before .before .before .before .before .before .args .output .now))
+within : (c : tie.After-answer) → Reached (c .answer .result .run .station)
+    × (c .answer .result .taken ≤ length (take (start c .args .s .held) (start c .args .input .now)))
+    × (c .answer .result .written ≤ length (start c .args .output .now))
 within c =
-    let start = c .before .before .before .before .before .before in
-    progress-within (start .args .s .ended) (start .args .output .now) (take (start .args .s .held) (start .args .input .now)) (bytes-take (start .args .s .held) (start .args .input .now) (λ i. c .before .before .before .before .before .slice-known .given i .fits)) (start .args .s .run) (start .pre .reached) (c .answer .result) (c .answer .ensures .0)
+    let s = start c .args .s in
+    let input = start c .args .input .now in
+    progress-within (s .ended) (start c .args .output .now) (take (s .held) input) (bytes-take (s .held) input (λ i. c .before .before .before .before .before .slice-known .given i .fits))
+    (s .run) (start c .pre .reached) (c .answer .result) (c .answer .ensures .0)
 
 slice-reshare-prefix-write-all : tie.Need-slice-reshare-prefix-write-all
-slice-reshare-prefix-write-all c = subst (λ (n : ℕ). c .before .before .before .answer .result .written ≤ n) (sym (c .before .before .before .answer .kept .1 .1 .1 .0)) (within (c .before .before .before) .2)
+slice-reshare-prefix-write-all c = rw (c .before .before .before .answer .kept .1 .1 .1 .0) (within (c .before .before .before) .2)
 
 slice-aggregate-write-all : tie.Need-slice-aggregate-write-all
 slice-aggregate-write-all c = sym (length-take-le _ _ (slice-reshare-prefix-write-all (c .before)))
@@ -50,10 +58,13 @@ same-length-2 : tie.Need-same-length-2
 same-length-2 c = search needs
 
 returns : tie.Need-returns
-returns c = record {
-  reached = within (c .before .before .before .before .before .before .before .before .before .before .before) .0;
-  held = subst (λ (n : ℕ). n ≤ length (c .before .before .before .before .before .before .before .before .before .before .before .before .before .before .before .before .before .args .input .now)) (sym (c .before .before .before .carry .ensures .0)) (left-within (c .before .before .before .before .before .before .before .before .before .before .before .answer .result .taken) (c .before .before .before .before .before .before .before .before .before .before .before .before .before .before .before .before .before .args .s .held) (c .before .before .before .before .before .before .before .before .before .before .before .before .before .before .before .before .before .args .input .now));
-}
+returns c =
+    let answered = c .before .before .before .before .before .before .before .before .before .before .before in
+    let start = start answered .args in
+    record {
+      reached = within answered .0;
+      held = rw (c .before .before .before .carry .ensures .0) (left-within (answered .answer .result .taken) (start .s .held) (start .input .now));
+    }
 
 pub answer-spec : {M : Type 1} → statement M
 answer-spec =

@@ -1,12 +1,11 @@
 -- Each turn keeps the buffers' lengths and the stage sound; the turns left fall.
-use Prim.Native.Nat.{ℕ, _≤_}
-use mathlib.Core.Path.{_≡_, _∙_, sym, subst}
+use Prim.Native.Nat.{_≤_}
+use mathlib.Core.Path.{_≡_, _∙_, sym}
 use borrow.Author.Tests.{ltb-true}
 use native.Mathlib.Omega.{arith}
 use lib.ListN.{length}
 use Rattle.laws.proofs.Tests.{both-true}
-use Rattle.table.specs.Reached.{Reached, born}
-use Rattle.lines.specs.declared.Run.{Run}
+use Rattle.table.specs.Reached.{born}
 use Rattle.station.specs.Stages.{Sound}
 use Rattle.station.proofs.main.Statement.{statement}
 use Rattle.station.proofs.main.Tie as tie
@@ -27,7 +26,11 @@ new-requires : tie.Need-new-requires Inv-loop μ-loop
 new-requires c κs = tt
 
 loop-holds : tie.Need-loop-holds Inv-loop μ-loop
-loop-holds c = (sym (c .before .before .large-buffer .ensures), sym (c .before .large-buffer2 .ensures), record { reached = subst (λ (r : Run). Reached (r .station)) (sym (c .new .ensures)) (born 100 50 2000 3000); held = omega arith })
+loop-holds c = (
+  sym (c .before .before .large-buffer .ensures),
+  sym (c .before .large-buffer2 .ensures),
+  record { reached = rw (c .new .ensures) (born 100 50 2000 3000); held = omega arith },
+)
 
 slice-aggregate-turn : tie.Need-slice-aggregate-turn Inv-loop μ-loop
 slice-aggregate-turn c = sym (c .before .before .before .loop .inv .0)
@@ -36,11 +39,13 @@ slice-aggregate-turn-2 : tie.Need-slice-aggregate-turn-2 Inv-loop μ-loop
 slice-aggregate-turn-2 c = sym (c .before .before .before .before .loop .inv .1)
 
 turn-requires : tie.Need-turn-requires Inv-loop μ-loop
-turn-requires c κs = subst (λ (n : ℕ). Sound n (c .before .before .before .before .loop .s)) (sym (c .before .before .before .before .loop .inv .0)) (c .before .before .before .before .loop .inv .2)
+turn-requires c κs = let inv = c .before .before .before .before .loop .inv in rw (inv .0) (inv .2)
 
 -- a turn is left
 some : (c : tie.After-output2 Inv-loop μ-loop) → 1 ≤ c .before .before .before .before .before .before .before .loop .turns
-some c = ltb-true 0 (c .before .before .before .before .before .before .before .loop .turns) (both-true (c .before .before .before .before .before .before .before .loop .s .more) _ (c .before .before .before .before .before .if1 .taken) .1)
+some c =
+    let now = c .before .before .before .before .before .before .before .loop in
+    ltb-true 0 (now .turns) (both-true (now .s .more) _ (c .before .before .before .before .before .if1 .taken) .1)
 
 sub-turns : tie.Need-sub-turns Inv-loop μ-loop
 sub-turns c = some c
@@ -50,8 +55,9 @@ loop-less c = omega (arith, some c)
 
 loop-again : tie.Need-loop-again Inv-loop μ-loop
 loop-again c =
-    let now = c .before .before .before .before .before .before .before .loop in
-    (c .before .before .turn .kept .1 .0 ∙ now .inv .0, c .before .before .turn .kept .1 .1 .0 ∙ now .inv .1, subst (λ (n : ℕ). Sound n (c .before .before .turn .result)) (now .inv .0) (c .before .before .turn .ensures))
+    let inv = c .before .before .before .before .before .before .before .loop .inv in
+    let turn = c .before .before .turn in
+    (turn .kept .1 .0 ∙ inv .0, turn .kept .1 .1 .0 ∙ inv .1, rw (inv .0) at (turn .ensures))
 
 returns : tie.Need-returns Inv-loop μ-loop
 returns c = tt

@@ -1,13 +1,11 @@
 -- The digits are stored, and the byte after them.
-use Prim.Native.Nat.{ℕ, _+_}
-use mathlib.Core.Path.{_≡_, sym, ap, _∙_}
-use mathlib.Core.List.{List, [], _∷_}
+use Prim.Native.Nat.{_+_, _≤_}
+use mathlib.Core.Path.{refl}
+use mathlib.Core.List.{[], _∷_}
 use native.Mathlib.Omega.{arith}
-use lib.ListN.{length, length-append, set}
-use lib.Seq.{sets}
-use Rattle.lines.specs.Text.{size, digits, cell}
+use Rattle.lines.specs.Text.{size as sizeOf, digits}
 use Rattle.lines.proofs.Digits.{size-most, length-digits}
-use Rattle.lines.proofs.Writing.{sets-append}
+use Rattle.lines.proofs.Writing.{joined}
 use borrow.Author.Needs.{needs}
 use Rattle.lines.proofs.text.cell.Statement.{statement}
 use Rattle.lines.proofs.text.cell.Tie as tie
@@ -15,36 +13,31 @@ use Rattle.lines.proofs.text.cell.Tie as tie
 size-requires : tie.Need-size-requires
 size-requires c κs = search needs
 
+-- it has at most 20 digits
+few : (c : tie.After-size) → c .size .result ≤ 20
+few c = omega (arith, size-most 19 (c .before .before .args .n))
+
 spell-requires : tie.Need-spell-requires
-spell-requires c κs = omega (arith, c .before .size .ensures, size-most 19 (c .before .before .before .args .n), c .before .before .before .pre)
+spell-requires c κs = omega (arith, few (c .before))
 
 add-end : tie.Need-add-end
-add-end c = omega (arith, c .before .before .before .before .size .ensures, size-most 19 (c .before .before .before .before .before .before .args .n), c .before .before .before .before .before .before .pre, c .before .before .before .before .before .before .good)
+add-end c = omega (arith, few (c .before .before .before .before))
 
 slice-write-out : tie.Need-slice-write-out
-slice-write-out c = omega (arith, c .before .before .before .before .size .ensures, size-most 19 (c .before .before .before .before .before .before .args .n), c .before .before .before .before .before .before .pre, c .before .before .spell .kept)
+slice-write-out c = omega (arith, few (c .before .before .before .before))
 
 add-result : tie.Need-add-result
-add-result c = omega (arith, c .before .before .before .before .size .ensures, size-most 19 (c .before .before .before .before .before .before .args .n), c .before .before .before .before .before .before .pre, c .before .before .before .before .before .before .good)
+add-result c = omega (arith, few (c .before .before .before .before))
 
 same-length : tie.Need-same-length
 same-length c = search needs
 
-stored : (out left : List ℕ) (at n after k : ℕ) → k ≡ size n → left ≡ sets out at (digits k n) → (at + k + 1 ≡ at + length (cell n after)) × (set left (at + k) after ≡ sets out at (cell n after))
-stored out left at n after k e f =
-    let long : length (digits (size n) n) ≡ size n = length-digits (size n) n in
-    let longer : length (cell n after) ≡ length (digits (size n) n) + 1 = length-append (digits (size n) n) (after ∷ []) in (
-      omega (arith, e, long, longer),
-      ap (λ (m : List ℕ). set m (at + k) after) f
-          ∙ ap (λ (j : ℕ). set (sets out at (digits j n)) (at + j) after) e
-          ∙ ap (λ (j : ℕ). set (sets out at (digits (size n) n)) (at + j) after) (sym long)
-          ∙ sym (sets-append out at (digits (size n) n) (after ∷ [])),
-    )
-
 returns : tie.Need-returns
 returns c =
-    let start = c .before .before .before .before .before .before in
-    stored (start .args .out .now) _ (start .args .at) (start .args .n) (start .args .after) _ (c .before .before .before .before .size .ensures) (c .before .before .spell .ensures)
+    let start = c .before .before .before .before .before .before .args in
+    let size = c .before .before .before .before .size in
+    joined (start .out .now) _ _ (start .at) (start .at + size .result) _ (digits (sizeOf (start .n)) (start .n)) (start .after ∷ [])
+    (rw (size .ensures, length-digits (sizeOf (start .n)) (start .n))) (rw (size .ensures) at (c .before .before .spell .ensures)) refl refl
 
 pub cell-spec : {M : Type 1} → statement M
 cell-spec =

@@ -1,22 +1,25 @@
 -- The numbers that are left, written after what is there, give the whole.
 use Prim.Native.Nat.{ℕ, _+_, _*_, _-_, _≤_, _<_}
-use mathlib.Core.Path.{_≡_, refl, sym, _∙_}
+use mathlib.Core.Path.{_≡_, refl, _∙_}
 use mathlib.Core.List.{List, [], _++_}
-use native.Mathlib.Nat.{add-assoc}
 use native.Mathlib.Numerals.{add-one}
 use native.Mathlib.Omega.{arith}
-use lib.ListN.{length, getD, drop, length-append, drop-of-length-le}
+use lib.ListN.{length, getD, drop, drop-of-length-le}
 use lib.Seq.{sets, drop-cons}
 use Rattle.lines.specs.Text.{cell, spaced}
 use Rattle.lines.proofs.Digits.{cell-most}
-use Rattle.lines.proofs.Writing.{sets-append}
+use Rattle.lines.proofs.Writing.{joined}
 use Rattle.lines.proofs.text.cells.Statement.{statement}
 use Rattle.lines.proofs.text.cells.Tie as tie
 
 -- so far: each number took at most 21 bytes
 abbrev Inv-loop : tie.InvT-loop
 Inv-loop out₀ at numbers place₀ i₀ out place i =
-    (i ≤ 8) × (length out ≡ length out₀) × (place ≤ at + 21 * i) × (place + length (spaced (drop i numbers)) ≡ at + length (spaced numbers)) × (sets out place (spaced (drop i numbers)) ≡ sets out₀ at (spaced numbers))
+    (i ≤ 8)
+    × (length out ≡ length out₀)
+    × (place ≤ at + 21 * i)
+    × (place + length (spaced (drop i numbers)) ≡ at + length (spaced numbers))
+    × (sets out place (spaced (drop i numbers)) ≡ sets out₀ at (spaced numbers))
 
 abbrev μ-loop : tie.MeasureT-loop
 μ-loop out₀ at numbers place₀ i₀ out place i = 8 - i
@@ -25,19 +28,19 @@ loop-holds : tie.Need-loop-holds Inv-loop μ-loop
 loop-holds c = (omega arith, refl, omega arith, refl, refl)
 
 mul-cell : tie.Need-mul-cell Inv-loop μ-loop
-mul-cell c = omega (arith, c .loop-test .taken)
+mul-cell c = omega arith
 
 array-read-cell : tie.Need-array-read-cell Inv-loop μ-loop
 array-read-cell c = c .loop-test .taken
 
 cell-requires : tie.Need-cell-requires Inv-loop μ-loop
-cell-requires c κs = omega (arith, c .before .before .loop .inv .1, c .before .before .loop .inv .2, c .before .loop-test .taken, c .before .before .before .before .pre .1)
+cell-requires c κs = omega arith
 
 add-i : tie.Need-add-i Inv-loop μ-loop
-add-i c = omega (arith, c .before .before .before .before .loop-test .taken)
+add-i c = omega arith
 
 loop-less : tie.Need-loop-less Inv-loop μ-loop
-loop-less c = omega (arith, c .before .before .before .before .loop-test .taken)
+loop-less c = omega arith
 
 -- the next number
 next : (numbers : List ℕ) (i : ℕ) → i < length numbers → spaced (drop i numbers) ≡ cell (getD numbers i 0) 32 ++ spaced (drop (i + 1) numbers)
@@ -45,24 +48,21 @@ unfolding spaced
 next numbers i h = rw (drop-cons numbers i 0 h, add-one i)
 
 -- is written where the last one ended
-onward : (numbers out left : List ℕ) (i at end : ℕ) → i < length numbers → end ≡ at + length (cell (getD numbers i 0) 32) → left ≡ sets out at (cell (getD numbers i 0) 32)
+onward : (numbers out left : List ℕ) (i at end : ℕ) → i < length numbers → end ≡ at + length (cell (getD numbers i 0) 32)
+    → left ≡ sets out at (cell (getD numbers i 0) 32)
     → (end + length (spaced (drop (i + 1) numbers)) ≡ at + length (spaced (drop i numbers))) × (sets left end (spaced (drop (i + 1) numbers)) ≡ sets out at (spaced (drop i numbers)))
 onward numbers out left i at end h e f =
-    let text = cell (getD numbers i 0) 32 in
-    let rest = spaced (drop (i + 1) numbers) in (
-      rw (next numbers i h, length-append text rest, e) (add-assoc at (length text) (length rest)),
-      rw (next numbers i h, e, f) (sym (sets-append out at text rest)),
-    )
+    rw (next numbers i h) (joined out left _ at end _ (cell (getD numbers i 0) 32) (spaced (drop (i + 1) numbers)) e f refl refl)
 
 loop-again : tie.Need-loop-again Inv-loop μ-loop
 loop-again c =
     let start = c .before .before .before .before .before .before .before in
     let now = c .before .before .before .before .before .loop in
-    let here : now .i < length (start .args .t1) = omega (arith, c .before .before .before .before .loop-test .taken, start .pre .0) in
+    let here : now .i < length (start .args .t1) = omega arith in
     let on = onward (start .args .t1) (now .out) _ (now .i) (now .place) _ here (c .before .before .cell .ensures .0) (c .before .before .cell .ensures .1) in (
-      omega (arith, c .before .before .before .before .loop-test .taken),
+      omega arith,
       c .before .before .cell .kept .1 .1 .0 ∙ now .inv .1,
-      omega (arith, c .before .before .cell .ensures .0, cell-most (getD (start .args .t1) (now .i) 0) 32, now .inv .2),
+      omega (arith, cell-most (getD (start .args .t1) (now .i) 0) 32),
       on .0 ∙ now .inv .3,
       on .1 ∙ now .inv .4,
     )
@@ -79,7 +79,7 @@ returns : tie.Need-returns Inv-loop μ-loop
 returns c =
     let start = c .before .before .before in
     let now = c .before .loop in
-    let none = done (start .args .t1) (now .i) (omega (arith, c .loop-test .left, start .pre .0)) in
+    let none = done (start .args .t1) (now .i) (omega arith) in
     (omega (arith, rw none at (now .inv .3)), rw none at (now .inv .4))
 
 pub cells-spec : {M : Type 1} → statement M

@@ -33,7 +33,7 @@ loop-holds : tie.Need-loop-holds Inv-loop μ-loop
 loop-holds c = (omega arith, refl, refl)
 
 sub-i : tie.Need-sub-i Inv-loop μ-loop
-sub-i c = omega (arith, c .loop-test .taken)
+sub-i c = omega arith
 
 cast-out : tie.Need-cast-out Inv-loop μ-loop
 cast-out c = omega arith
@@ -42,18 +42,18 @@ add-out : tie.Need-add-out Inv-loop μ-loop
 add-out c = omega arith
 
 add-out-2 : tie.Need-add-out-2 Inv-loop μ-loop
-add-out-2 c = omega (arith, c .before .loop .inv, c .before .before .pre, c .before .before .good)
+add-out-2 c = omega arith
 
 slice-write-out : tie.Need-slice-write-out Inv-loop μ-loop
-slice-write-out c = omega (arith, c .before .loop .inv, c .before .before .pre, c .loop-test .taken)
+slice-write-out c = omega arith
 
 loop-less : tie.Need-loop-less Inv-loop μ-loop
-loop-less c = omega (arith, c .loop-test .taken)
+loop-less c = omega arith
 
 loop-again : tie.Need-loop-again Inv-loop μ-loop
 loop-again c =
     let now = c .before .loop .inv in (
-      omega (arith, now .0),
+      omega arith,
       length-set (c .before .loop .out) _ _ ∙ now .1,
       one-less (c .before .loop .out) (c .before .before .args .at) (c .before .loop .i) (c .before .loop .rest) (c .loop-test .taken) ∙ now .2,
     )
