@@ -9,14 +9,16 @@ use native.Mathlib.Omega.{arith}
 use lib.Count.{ones}
 use lib.Dec.{ltb, eqb}
 use lib.ListN.{length}
+use Rattle.laws.proofs.Sums.{total-append, total-le}
+use Rattle.laws.specs.Sums.{total}
 use Rattle.laws.proofs.Tests.{by-cases}
 use Rattle.bearers.specs.declared.Bearer.{Bearer}
-use Rattle.bearers.specs.Admission.{total, occurs, standing, hasTurn, turns, verdict, admitted, idsOf}
+use Rattle.bearers.specs.Admission.{occurs, standing, hasTurn, turns, verdict, admitted, idsOf}
 use Rattle.bearers.specs.Sets.{member, among, setOf}
 use Rattle.bearers.proofs.Granted.{Distinct, distinct-first, distinct-rest, units, granted, granted-le, granted-total, zero-means, turn-once, fits}
 use Rattle.bearers.proofs.Listing.{Formed}
 use Rattle.bearers.proofs.Membership.{same-members, member-setOf, ones-add, ones-none}
-use Rattle.bearers.proofs.Sums.{Each, total-append, total-those, total-le, once, once-own, each-here}
+use Rattle.bearers.proofs.Sums.{Each, total-those, once, once-own, each-here}
 
 -- An ID is among those of some bearers exactly if it occurs.
 among-occurs : (k : ℕ) (bs : List Bearer) → among k (map (λ b. b .id) bs) ≡ ltb 0 (occurs k bs)

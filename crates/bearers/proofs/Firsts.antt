@@ -6,14 +6,16 @@ use mathlib.Core.List.{List}
 use borrow.Author.Tests.{leb-false, lt-ltb, ltb-true, ltb-false}
 use native.Mathlib.Omega.{arith}
 use lib.Dec.{ltb}
+use Rattle.laws.proofs.Sums.{total-equal}
+use Rattle.laws.specs.Sums.{total}
 use Rattle.laws.proofs.Tests.{by-cases, on-either}
 use Rattle.bearers.specs.declared.Bearer.{Bearer}
 use Rattle.bearers.specs.declared.Survey.{Survey}
-use Rattle.bearers.specs.Admission.{total, those, occurs, idsOf}
+use Rattle.bearers.specs.Admission.{those, occurs, idsOf}
 use Rattle.bearers.specs.Working.{alone, Surveyed, firstsOf}
 use Rattle.bearers.proofs.Admitted.{member-ids}
 use Rattle.bearers.proofs.Membership.{same-members}
-use Rattle.bearers.proofs.Sums.{total-those, total-equal, once, once-other, occurs-those}
+use Rattle.bearers.proofs.Sums.{total-those, once, once-other, occurs-those}
 
 module _ (bs : List Bearer) (s : Survey) (known : Surveyed bs s) where
   -- What counts no bearer whose ID occurs more than once has the same sum over the first bearers as over all.

@@ -7,10 +7,11 @@ use borrow.Author.Tests.{eq-eqb, ne-eqb, eqb-false, le-leb, lt-ltb, leb-true, lt
 use native.Mathlib.Omega.{arith}
 use lib.Bits.{or-zero-r}
 use lib.Dec.{leb, ltb, eqb}
+use Rattle.laws.specs.Sums.{total}
 use Rattle.laws.proofs.Tests.{by-cases, both-true}
 use Rattle.bearers.specs.declared.Bearer.{Bearer}
 use Rattle.bearers.specs.declared.Grants.{Grants}
-use Rattle.bearers.specs.Admission.{total, those, occurs, hasTurn, turns, after, freeAt, verdict, admitted, idsOf}
+use Rattle.bearers.specs.Admission.{those, occurs, hasTurn, turns, after, freeAt, verdict, admitted, idsOf}
 use Rattle.bearers.specs.Sets.{add, union, setOf}
 use Rattle.bearers.specs.Working.{run}
 use Rattle.bearers.proofs.Listing.{Formed}

@@ -9,11 +9,12 @@ use lib.Bits.{or-zero-l}
 use lib.Dec.{eqb}
 use lib.ListN.{length, getD, drop, replicate, length-append, length-replicate, getD-replicate, List·getD-append}
 use lib.Seq.{getD-take, drop-at}
+use Rattle.laws.specs.Sums.{total}
 use Rattle.laws.proofs.Tests.{both-true}
 use Rattle.records.specs.declared.Record.{Record}
 use Rattle.bearers.specs.declared.Bearer.{Bearer}
 use Rattle.bearers.specs.declared.Survey.{Survey}
-use Rattle.bearers.specs.Admission.{total, those, occurs, hasTurn, release8, turns, verdict, admitted, refused, idsOf}
+use Rattle.bearers.specs.Admission.{those, occurs, hasTurn, release8, turns, verdict, admitted, refused, idsOf}
 use Rattle.bearers.specs.Bearer.{isBearer, bearerOf, allBearers}
 use Rattle.bearers.specs.Working.{alone, Surveyed, firstsOf, clear, run, sorted, settledBy, refusedBy, written}
 use Rattle.bearers.proofs.Admitted.{granted-ids, verdict-member}

@@ -9,9 +9,10 @@ use native.Mathlib.Omega.{arith}
 use lib.Count.{ones}
 use lib.Dec.{ltb, eqb}
 use lib.ListN.{length, length-map}
+use Rattle.laws.specs.Sums.{total}
 use Rattle.laws.proofs.Tests.{by-cases, both-true}
 use Rattle.bearers.specs.declared.Bearer.{Bearer}
-use Rattle.bearers.specs.Admission.{total, those, occurs, standing, hasTurn, turns, freeAt, verdict, admitted, refused, idsOf}
+use Rattle.bearers.specs.Admission.{those, occurs, standing, hasTurn, turns, freeAt, verdict, admitted, refused, idsOf}
 use Rattle.bearers.specs.Sets.{member, union, disjoint}
 use Rattle.bearers.specs.Working.{sorted}
 use Rattle.bearers.proofs.Admitted.{member-ids, member-absent, ones-ids, admitted-le, granted-ids, verdict-member}

@@ -8,9 +8,11 @@ use native.Mathlib.Omega.{arith}
 use lib.Dec.{leb, ltb, eqb}
 use lib.ListN.{length, getD}
 use lib.Seq.{append-snoc}
+use Rattle.laws.proofs.Sums.{total-equal, total-none, total-append, total-add}
+use Rattle.laws.specs.Sums.{total}
 use Rattle.laws.proofs.Tests.{by-cases, on-either}
 use Rattle.bearers.specs.declared.Bearer.{Bearer}
-use Rattle.bearers.specs.Admission.{total, those, occurs, turnsFrom}
+use Rattle.bearers.specs.Admission.{those, occurs, turnsFrom}
 
 -- what holds of each bearer of a list
 abbrev pub Each : (Bearer → Type 0) → List Bearer → Type 0
@@ -22,33 +24,6 @@ pub total-same : {P : Bearer → Type 0} (f g : Bearer → ℕ) (bs : List Beare
 unfolding total
 total-same f g [] each same = refl
 total-same f g (b ∷ bs) each same = ap₂ _+_ (same b (each .0)) (total-same f g bs (each .1) same)
-
--- The same, where they agree whatever the bearer.
-pub total-equal : (f g : Bearer → ℕ) (bs : List Bearer) → ((b : Bearer) → f b ≡ g b) → total f bs ≡ total g bs
-total-equal f g bs same = λ i. total (λ b. same b i) bs
-
--- A number that is 0 for each bearer has the sum 0.
-pub total-none : (f : Bearer → ℕ) (bs : List Bearer) → ((b : Bearer) → f b ≡ 0) → total f bs ≡ 0
-unfolding total
-total-none f [] none = refl
-total-none f (b ∷ bs) none = omega (arith, none b, total-none f bs none)
-
--- A number that is at most another for each bearer has at most its sum.
-pub total-le : (f g : Bearer → ℕ) (bs : List Bearer) → ((b : Bearer) → f b ≤ g b) → total f bs ≤ total g bs
-unfolding total
-total-le f g [] le = omega arith
-total-le f g (b ∷ bs) le = omega (arith, le b, total-le f g bs le)
-
--- The sum over two lists, of two numbers, and over those that pass a test.
-pub total-append : (f : Bearer → ℕ) (xs ys : List Bearer) → total f (xs ++ ys) ≡ total f xs + total f ys
-unfolding total
-total-append f [] ys = omega arith
-total-append f (x ∷ xs) ys = omega (arith, total-append f xs ys)
-
-pub total-add : (f g : Bearer → ℕ) (bs : List Bearer) → total (λ b. f b + g b) bs ≡ total f bs + total g bs
-unfolding total
-total-add f g [] = refl
-total-add f g (b ∷ bs) = omega (arith, total-add f g bs)
 
 pub total-those : (f : Bearer → ℕ) (test : Bearer → Bool) (bs : List Bearer) → total f (those test bs) ≡ total (λ b. cond (test b) (f b) 0) bs
 unfolding total those

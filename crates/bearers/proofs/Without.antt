@@ -6,9 +6,10 @@ use mathlib.Core.List.{List, [], _∷_, _++_}
 use borrow.Author.Tests.{eq-eqb, ne-eqb, eqb-true, eqb-false, lt-leb}
 use native.Mathlib.Omega.{arith}
 use lib.Dec.{eqb}
+use Rattle.laws.specs.Sums.{total}
 use Rattle.laws.proofs.Tests.{by-cases}
 use Rattle.bearers.specs.declared.Bearer.{Bearer}
-use Rattle.bearers.specs.Admission.{total, those, occurs, standing, hasTurn, turnsFrom, turns, after, freeAt, verdict}
+use Rattle.bearers.specs.Admission.{those, occurs, standing, hasTurn, turnsFrom, turns, after, freeAt, verdict}
 use Rattle.bearers.proofs.Granted.{Distinct, distinct-first, distinct-rest, turn-once, turns-distinct}
 use Rattle.bearers.proofs.Sums.{once, once-own, once-other, those-same}
 

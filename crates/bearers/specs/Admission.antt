@@ -6,17 +6,13 @@ use mathlib.Core.List.{List, [], _∷_, _++_, map}
 use lib.Count.{ones}
 use lib.Dec.{leb, ltb, eqb}
 use lib.ListN.{length, drop, replicate}
+use Rattle.laws.specs.Sums.{total}
 use Rattle.bearers.specs.declared.Admission.{Admission}
 use Rattle.bearers.specs.declared.Bearer.{Bearer}
 use Rattle.bearers.specs.declared.Judgement.{Judgement}
 use Rattle.bearers.specs.declared.Judgement.the-variants.{Given, Malformed}
 use Rattle.bearers.specs.Bearer.{recordsIn, bearersIn, allBearers}
 use Rattle.bearers.specs.Sets.{setOf}
-
--- a number for each bearer, added up
-unfoldable pub total : (Bearer → ℕ) → List Bearer → ℕ
-total f [] = 0
-total f (b ∷ bs) = f b + total f bs
 
 -- the bearers that pass a test, in their order
 unfoldable pub those : (Bearer → Bool) → List Bearer → List Bearer

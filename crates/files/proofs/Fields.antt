@@ -8,7 +8,7 @@ use borrow.Author.Tests.{ltb-true, eqb-true}
 use lib.Dec.{ltb, eqb}
 use lib.ListN.{length, getD, drop, replicate, length-append}
 use lib.Seq.{set-at}
-use Rattle.laws.proofs.Tests.{both-true, by-cases}
+use Rattle.laws.proofs.Tests.{both-true, by-cases, below-at}
 use Rattle.lines.specs.Text.{size, digits}
 use Rattle.records.specs.Record.{InRange}
 use Rattle.records.specs.declared.Record.{Record}
@@ -17,16 +17,15 @@ use Rattle.text.specs.Words.{wordAt}
 use Rattle.text.specs.Shown.{spacedWord, valuesOf, fieldWord, valueText, fieldText, fieldsText, wordsText}
 use Rattle.text.specs.Composed.{isSet, limits, fields, nextField, mayBegin, Made, stage}
 use Rattle.files.proofs.Leading.{at, resting, Reads}
-use Rattle.files.proofs.Typing.{Adds, adds-none, adds-on, adds-word, allBelow, below, kind-read, field-read, number-read}
+use Rattle.files.proofs.Typing.{Adds, adds-none, adds-on, adds-word, kind-read, field-read, number-read}
 use Rattle.files.proofs.Members.{ids-read}
 
 -- ---- the tables
 
 -- A word of the table that names a field by its place names that field.
 names : (f : ℕ) → 1 ≤ f → f ≤ 14 → getD fields (17 + f) 0 ≡ f
-unfolding allBelow
 names zero h k = absurd (omega arith)
-names (suc f) h k = eqb-true (getD fields (17 + suc f) 0) (suc f) (below 14 (λ i. eqb (getD fields (17 + suc i) 0) (suc i)) refl f (omega arith))
+names (suc f) h k = eqb-true (getD fields (17 + suc f) 0) (suc f) (below-at 14 (λ i. eqb (getD fields (17 + suc i) 0) (suc i)) f refl (omega arith))
 
 -- So does the word that a field is shown with, a count and units too.
 word-names : (kind f : ℕ) → 1 ≤ f → f ≤ 14 → (17 < fieldWord kind f) × (fieldWord kind f ≤ 34) × (getD fields (fieldWord kind f) 0 ≡ f)
@@ -39,8 +38,7 @@ word-names kind f h k =
 
 -- A number that may stand in a field has 64 bits.
 limit-fits : (f : ℕ) → f ≤ 14 → getD limits f 0 < 2 ^ 64
-unfolding allBelow
-limit-fits f h = ltb-true (getD limits f 0) (2 ^ 64) (below 15 (λ i. ltb (getD limits i 0) (2 ^ 64)) refl f (omega arith))
+limit-fits f h = ltb-true (getD limits f 0) (2 ^ 64) (below-at 15 (λ i. ltb (getD limits i 0) (2 ^ 64)) f refl (omega arith))
 
 -- ---- fields
 

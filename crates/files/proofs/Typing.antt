@@ -7,7 +7,7 @@ use native.Mathlib.Omega.{arith}
 use borrow.Author.Tests.{le-leb, eq-eqb, ne-eqb, leb-false, eqb-true, eqb-false, not-true}
 use lib.Dec.{leb, eqb}
 use lib.ListN.{getD, set}
-use Rattle.laws.proofs.Tests.{both-true, by-cases, on-true}
+use Rattle.laws.proofs.Tests.{both-true, by-cases, on-true, below, below-at}
 use Rattle.lines.specs.Text.{sizeIn, size, digits}
 use Rattle.text.specs.declared.compose.Word.{Word}
 use Rattle.text.specs.Words.{isSame, placeIn, placeOf, trimmed, wordAt}
@@ -58,19 +58,6 @@ typedAll w (b ∷ bs) = typedAll (pushed w b) bs
 
 -- ---- words of the table
 
--- whether a test holds of every number below one
-unfoldable pub allBelow : ℕ → (ℕ → Bool) → Bool
-allBelow zero test = true
-allBelow (suc n) test = test n && allBelow n test
-
--- It holds of each.
-pub below : (n : ℕ) (test : ℕ → Bool) → allBelow n test ≡ true → (k : ℕ) → k < n → test k ≡ true
-unfolding allBelow
-below zero test t k h = absurd (omega arith)
-below (suc n) test t k h =
-    let both = both-true (test n) (allBelow n test) t in
-    by-cases (eqb k n) (λ e. rw (eqb-true k n e) (both .0)) (λ e. below n test (both .1) k (omega (arith, eqb-false k n e)))
-
 -- what is typed of a word of the table
 abbrev pub wordOf : ℕ → Word
 wordOf k = typedAll emptyWord (wordAt k)
@@ -80,8 +67,8 @@ abbrev isRead : ℕ → Bool
 isRead k = allPlain (wordAt k) && not (eqb (wordOf k .size) 0) && not (wordOf k .number) && eqb k (placeOf (wordOf k .text))
 
 -- Every one does: the table is computed.
-all-read : allBelow 37 isRead ≡ true
-unfolding allBelow allPlain typedAll wordAt trimmed placeIn isSame
+all-read : below 37 isRead ≡ true
+unfolding allPlain typedAll wordAt trimmed placeIn isSame
 all-read = refl
 
 -- ---- numbers
@@ -196,7 +183,7 @@ module _ (values : List ℕ) (field mode staged : ℕ) (out : List ℕ) where
     pub word-read : (k : ℕ) → k ≤ 36 → (n : Made) → n ≡ understood (line (wordOf k)) k → Reads (wordAt k) (line emptyWord) n
     word-read k h n e =
         let w = wordOf k in
-        let all = both-true (allPlain (wordAt k) && not (eqb (w .size) 0) && not (w .number)) _ (below 37 isRead all-read k (omega arith)) in
+        let all = both-true (allPlain (wordAt k) && not (eqb (w .size) 0) && not (w .number)) _ (below-at 37 isRead k all-read (omega arith)) in
         let three = both-true (allPlain (wordAt k) && not (eqb (w .size) 0)) _ (all .0) in
         let two = both-true (allPlain (wordAt k)) _ (three .0) in
         types-word (wordAt k) n (two .0)

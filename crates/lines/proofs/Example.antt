@@ -2,10 +2,11 @@
 use Prim.Native.Nat.{ℕ}
 use mathlib.Core.Path.{_≡_, refl}
 use mathlib.Core.List.{List, [], _∷_}
+use Rattle.laws.specs.Sums.{total}
 use Rattle.records.specs.Record.{little, recordOf}
 use Rattle.records.specs.Stream as stream
 use Rattle.bearers.specs.Bearer.{recordsIn, allBearers}
-use Rattle.bearers.specs.Admission.{total, those, turnsFrom, freeAt, verdict}
+use Rattle.bearers.specs.Admission.{those, turnsFrom, freeAt, verdict}
 use Rattle.bearers.specs.Sets as sets
 use Rattle.table.specs.Numbers.{anyOf, issueFrom}
 use Rattle.table.specs.Table.{findFrom, dueFrom}

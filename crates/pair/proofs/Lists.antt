@@ -3,8 +3,7 @@ use Prim.Native.Nat.{ℕ, suc}
 use mathlib.Core.Path.{_≡_}
 use mathlib.Core.Bool.{Bool, true}
 use mathlib.Core.List.{List, [], _∷_, _++_}
-use Rattle.laws.proofs.Tests.{both-true}
-use Rattle.table.proofs.Deciding.{every}
+use Rattle.laws.proofs.Tests.{both-true, every}
 use Rattle.pair.specs.World.{All, nothing, more}
 
 -- what holds of any two entries, the first standing before the second

@@ -8,7 +8,7 @@ use mathlib.Core.Option.{Option, some}
 use borrow.Author.Tests.{eqb-true, eqb-false, ne-eqb}
 use native.Mathlib.Omega.{arith}
 use lib.Dec.{eqb}
-use Rattle.laws.proofs.Tests.{by-cases}
+use Rattle.laws.proofs.Tests.{by-cases, clash, refuted}
 use Rattle.records.specs.declared.Record.{Record}
 use Rattle.table.proofs.Interface.{laws, step-laws}
 use Rattle.table.specs.declared.Answer.{Answer}
@@ -16,7 +16,6 @@ use Rattle.table.specs.declared.Station.{Station}
 use Rattle.table.specs.Views.{Outgoing, NotOut, Preparing, Prepared, Incoming, NotHeld, Held, someOut, someHeld, out, held, due, sent, to, isOtherEnding, Source, asks, readies, keeps, StepLaws}
 use Rattle.pair.specs.Theorem.{EndsOnce, AsFixed, AtRest, Past, starts, Still, here, onward, Nine, Demand}
 use Rattle.pair.specs.World.{Side, other, Envelope, World, recordOf, isMessage, act, Comes, All, nothing, Acts, Step, acts, loses}
-use Rattle.pair.proofs.Tests.{clash, refuted}
 use Rattle.pair.proofs.Posting.{posted-to, all-posted}
 use Rattle.pair.proofs.Taking.{taken-of, first-of, left}
 use Rattle.pair.proofs.Loss.{all-fewer}

@@ -9,19 +9,19 @@ use borrow.Author.Tests.{eqb-true, eq-eqb, ltb-true, not-true}
 use lib.Count.{onesIn, ones}
 use lib.Dec.{eqb, ltb}
 use lib.ListN.{length}
-use Rattle.laws.proofs.Tests.{by-cases, both-true}
+use Rattle.laws.specs.Sums.{total}
+use Rattle.laws.proofs.Tests.{by-cases, both-true, every}
 use Rattle.records.specs.Record.{little, recordOf, InRange}
 use Rattle.records.specs.declared.Record.{Record}
-use Rattle.bearers.specs.Admission.{total, those, turnsFrom, freeAt, verdict}
+use Rattle.bearers.specs.Admission.{those, turnsFrom, freeAt, verdict}
 use Rattle.bearers.specs.Bearer.{recordsIn, allBearers}
 use Rattle.bearers.specs.Sets.{add, setOf}
 use Rattle.table.specs.Cases.{numbered}
 use Rattle.table.specs.Events.{message}
 use Rattle.table.specs.Numbers.{anyOf, issueFrom}
 use Rattle.table.specs.Step.{stepOf}
-use Rattle.table.specs.Table.{findFrom, dueFrom, tally}
+use Rattle.table.specs.Table.{findFrom, dueFrom}
 use Rattle.table.specs.Views.{named, out, held, due}
-use Rattle.table.proofs.Deciding.{every}
 use Rattle.pair.proofs.Lists.{all-pass}
 use Rattle.pair.specs.World.{Side, A, B, other, Numbers, Envelope, World, act, asSent, Carries, request, plain, isMessage, own, take, All, nothing, more, Bounded, withQueue, Acts, Step, acts, loses, Run, next, limit}
 
@@ -61,7 +61,7 @@ module _ (peer : Side → ℕ) where
 
   -- and after all moves of a script; whatever a step says unfolds with it
   unfoldable pub played : World → List Move → World
-  unfolding findFrom issueFrom anyOf dueFrom tally onesIn ones little recordOf total those turnsFrom freeAt verdict recordsIn allBearers setOf add named out held due
+  unfolding findFrom issueFrom anyOf dueFrom total onesIn ones little recordOf those turnsFrom freeAt verdict recordsIn allBearers setOf add named out held due
   played w [] = w
   played w (m ∷ ms) = played (after w m) ms
 

@@ -8,9 +8,8 @@ use borrow.Author.Tests.{eqb-true, leb-true, le-leb, not-true}
 use native.Mathlib.Omega.{arith}
 use lib.Dec.{leb, eqb}
 use lib.ListN.{getD}
-use Rattle.laws.proofs.Tests.{by-cases, both-true}
+use Rattle.laws.proofs.Tests.{by-cases, both-true, clash, every, every-at}
 use Rattle.records.specs.declared.Record.{Record}
-use Rattle.table.proofs.Deciding.{every, every-at}
 use Rattle.table.specs.Cases as cases
 use Rattle.table.specs.Numbers.{blank, ownIs}
 use Rattle.table.specs.Step.{stepOf}
@@ -19,7 +18,6 @@ use Rattle.table.specs.Views.{recordAt, named, dueOf, due, to}
 use Rattle.table.specs.declared.Answer.{Answer}
 use Rattle.table.specs.declared.Entry.{Entry}
 use Rattle.table.specs.declared.Station.{Station}
-use Rattle.pair.proofs.Tests.{clash}
 use Rattle.pair.specs.Theorem.{Past, Settled, Still, here, onward, Nine, Settles}
 use Rattle.pair.specs.World.{Side, A, B, Envelope, World, acts, Run, next}
 use Rattle.pair.proofs.Scripts.{does, after, played, may, did, toBoth, at-side}

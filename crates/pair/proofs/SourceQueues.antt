@@ -8,12 +8,11 @@ use mathlib.Core.Option.{Option}
 use borrow.Author.Tests.{ne-eqb}
 use native.Mathlib.Omega.{arith}
 use lib.Dec.{eqb}
-use Rattle.laws.proofs.Tests.{by-cases}
+use Rattle.laws.proofs.Tests.{by-cases, refuted}
 use Rattle.records.specs.declared.Record.{Record}
 use Rattle.table.specs.declared.Answer.{Answer}
 use Rattle.table.specs.Views.{someOut, sent, to, issued}
 use Rattle.pair.specs.World.{Side, nextIssue, Envelope, Answered, Fixed, Refused, letter, isMessage, posted, Recent}
-use Rattle.pair.proofs.Tests.{refuted}
 use Rattle.pair.proofs.Lists.{all-map, all-both, all-front}
 use Rattle.pair.proofs.Directions.{Direction, SourceStep}
 use Rattle.pair.proofs.Invariant.{kindOf, oldOf, newOf, setOf, recordFor, Requested, Replied, Released, New, Requests, Once, Acknowledges, Failures, Releases, HeldFixed, Order, HeldAcknowledge, Invariant}

@@ -9,6 +9,7 @@ use borrow.Author.Tests.{eqb-true, eq-eqb, leb-false}
 use native.Mathlib.Omega.{arith}
 use lib.Dec.{leb, eqb}
 use lib.ListN.{getD}
+use Rattle.laws.proofs.Sums.{total-at}
 use Rattle.laws.proofs.Tests.{by-cases, both-true}
 use Rattle.records.specs.declared.Record.{Record}
 use Rattle.table.specs.declared.Entry.{Entry}
@@ -30,7 +31,7 @@ use Rattle.table.proofs.Orderless.{about-once}
 use Rattle.table.proofs.Placing.{found-place}
 use Rattle.table.proofs.Rows.{row-step}
 use Rattle.table.proofs.Soundness.{sound, sound-step}
-use Rattle.table.proofs.Tally.{tally-at, none-at}
+use Rattle.table.proofs.Tally.{none-at}
 use Rattle.table.proofs.Ticks.{dueTimes, tick-nine}
 use Rattle.table.proofs.Viewing.{named-at, named-none, own-sole}
 
@@ -127,7 +128,7 @@ nine-of s sound e bearers room p i d fifteen nine timer =
     (λ there.
     let x = getD (s .entries) (there .0) blank in
     let seen = due-means p d x (rw (there .3) at timer) in
-    let one = tally-at (dueTimes e) (s .entries) (there .0) blank (omega (arith, there .1, sound .places)) in
+    let one = total-at (dueTimes e) (s .entries) (there .0) blank (omega (arith, there .1, sound .places)) in
     let before = not-due e x fifteen (seen .0) (omega (arith, one, tick-nine e fifteen formed s bearers room nine)) in
     omega (arith, before, seen .1))
     (λ free. absurd (Option·none-ne-some d (rw (free .1) at timer)))

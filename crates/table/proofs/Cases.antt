@@ -7,10 +7,12 @@ use borrow.Author.Tests.{eq-eqb, ne-eqb}
 use native.Mathlib.Omega.{arith}
 use lib.Dec.{eqb}
 use lib.ListN.{length, getD, replicate}
+use Rattle.laws.specs.Sums.{total}
+use Rattle.laws.proofs.Tests.{same-at}
 use Rattle.records.specs.declared.Record.{Record}
 use Rattle.records.specs.Record.{little, recordOf, InRange}
 use Rattle.bearers.specs.Bearer.{recordsIn, allBearers}
-use Rattle.bearers.specs.Admission.{total, those, turnsFrom, freeAt, verdict}
+use Rattle.bearers.specs.Admission.{those, turnsFrom, freeAt, verdict}
 use Rattle.bearers.specs.Sets as sets
 use Rattle.table.specs.declared.Answer.{Answer}
 use Rattle.table.specs.declared.Found.the-variants.{At, Nothing}
@@ -24,7 +26,6 @@ use Rattle.table.specs.Table.{find, findFrom, dueFrom}
 use Rattle.table.proofs.Forms.{used-in-range}
 use Rattle.table.proofs.Issuing.{issue-free, issue-used}
 use Rattle.table.proofs.Rows.{row-step, start-step}
-use Rattle.table.proofs.Tests.{same-at}
 use Rattle.table.specs.Cases.{Seen, Case, freshly, preparing, stationWith, issuedLast, startOf, bytesIn, runs, Holds, numbered, request, start, cancel, cases, noCase}
 
 -- ---- a station that issued 4,095 last

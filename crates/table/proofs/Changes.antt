@@ -5,6 +5,8 @@ use mathlib.Core.Bool.{true}
 use mathlib.Core.List.{map}
 use native.Mathlib.Omega.{arith}
 use lib.ListN.{length, getD, set, length-set, length-map}
+use Rattle.laws.proofs.Sums.{total-at, total-set, total-map, total-equal, total-le, total-add}
+use Rattle.laws.specs.Sums.{total}
 use Rattle.laws.proofs.Tests.{by-cases}
 use Rattle.records.specs.declared.Record.{Record}
 use Rattle.table.specs.declared.Entry.{Entry}
@@ -12,11 +14,10 @@ use Rattle.table.specs.declared.Station.{Station}
 use Rattle.table.specs.Events.{about}
 use Rattle.table.specs.Numbers.{isFree, blank}
 use Rattle.table.specs.Sound.{Fit, Sound, ownTimes, heldTimes}
-use Rattle.table.specs.Table.{at, put, add, tally, leftOf, backOf, reset}
+use Rattle.table.specs.Table.{at, put, add, leftOf, backOf, reset}
 use Rattle.table.proofs.Finding.{set-each}
 use Rattle.table.proofs.Fits.{fit-blank}
 use Rattle.table.proofs.Resetting.{reset-at}
-use Rattle.table.proofs.Tally.{tally-at, tally-set, tally-map, tally-equal, tally-le, tally-add}
 
 module _ (s : Station) (sound : Sound s) where
   -- The clock may be any time up to the greatest.
@@ -51,13 +52,13 @@ module _ (s : Station) (sound : Sound s) where
         → r .units ≤ getD (s .entries) i blank .units
         → Sound (put i r s)
     sound-put own held units =
-        let changed = tally-set (λ x. x .units) (s .entries) i r blank inside in
-        let back = tally-at (λ x. x .units) (s .entries) i blank inside in
+        let changed = total-set (λ x. x .units) (s .entries) i r blank inside in
+        let back = total-at (λ x. x .units) (s .entries) i blank inside in
         record {
           places = length-set (s .entries) i r ∙ sound .places;
           fit = fit-set;
-          distinct = λ k. omega (arith, own k, sound .distinct k, tally-set (ownTimes k) (s .entries) i r blank inside);
-          unique = λ n o. omega (arith, held n o, sound .unique n o, tally-set (heldTimes n o) (s .entries) i r blank inside);
+          distinct = λ k. omega (arith, own k, sound .distinct k, total-set (ownTimes k) (s .entries) i r blank inside);
+          unique = λ n o. omega (arith, held n o, sound .unique n o, total-set (heldTimes n o) (s .entries) i r blank inside);
           sum = omega (arith, sound .sum);
           capacity = omega (arith, sound .sum, sound .capacity);
           clock = sound .clock;
@@ -70,18 +71,18 @@ module _ (s : Station) (sound : Sound s) where
     -- A record may be made at a free place, whose own ID, and if it is held whose neighbour and Old ID, no other has, and whose
     -- units are free.
     pub sound-add : (issued : ℕ) → issued < 4096 → isFree (getD (s .entries) i blank) ≡ true
-        → ((k : ℕ) → tally (ownTimes k) (s .entries) + ownTimes k r ≤ 1)
-        → ((n o : ℕ) → tally (heldTimes n o) (s .entries) + heldTimes n o r ≤ 1)
+        → ((k : ℕ) → total (ownTimes k) (s .entries) + ownTimes k r ≤ 1)
+        → ((n o : ℕ) → total (heldTimes n o) (s .entries) + heldTimes n o r ≤ 1)
         → s .used + r .units ≤ s .capacity
         → Sound (add i issued r s)
     sound-add issued small free own held units =
-        let changed = tally-set (λ x. x .units) (s .entries) i r blank inside in
+        let changed = total-set (λ x. x .units) (s .entries) i r blank inside in
         let empty = sound .fit i place .idle free in
         record {
           places = length-set (s .entries) i r ∙ sound .places;
           fit = fit-set;
-          distinct = λ k. omega (arith, own k, tally-set (ownTimes k) (s .entries) i r blank inside);
-          unique = λ n o. omega (arith, held n o, tally-set (heldTimes n o) (s .entries) i r blank inside);
+          distinct = λ k. omega (arith, own k, total-set (ownTimes k) (s .entries) i r blank inside);
+          unique = λ n o. omega (arith, held n o, total-set (heldTimes n o) (s .entries) i r blank inside);
           sum = omega (arith, sound .sum, rw empty at changed);
           capacity = (units, sound .capacity .1);
           clock = sound .clock;
@@ -111,13 +112,12 @@ module _ (s : Station) (sound : Sound s) where
       left-fits : (r : Entry) → Fit r → Fit (leftOf e r)
       left-fits r fit = by-cases (about e r) (λ t. rw t fit-blank) (λ t. rw t fit)
 
-      fewer : (f : Entry → ℕ) → f blank ≡ 0 → tally f (map (leftOf e) (s .entries)) ≤ tally f (s .entries)
+      fewer : (f : Entry → ℕ) → f blank ≡ 0 → total f (map (leftOf e) (s .entries)) ≤ total f (s .entries)
       fewer f none =
-          rw (tally-map f (leftOf e) (s .entries))
-          (tally-le (λ r. f (leftOf e r)) f (s .entries) (s .entries) refl
-          (λ i _. by-cases (about e (getD (s .entries) i blank)) (λ t. rw t (omega arith)) (λ t. rw t (omega arith))))
+          rw (total-map f (leftOf e) (s .entries))
+          (total-le (λ r. f (leftOf e r)) f (s .entries) (λ r. by-cases (about e r) (λ t. rw t (omega arith)) (λ t. rw t (omega arith))))
 
-      parts : tally (λ r. r .units) (s .entries) ≡ tally (backOf e) (s .entries) + tally (λ r. r .units) (map (leftOf e) (s .entries))
+      parts : total (λ r. r .units) (s .entries) ≡ total (backOf e) (s .entries) + total (λ r. r .units) (map (leftOf e) (s .entries))
       parts =
-          let each = tally-equal (λ r. r .units) (λ r. backOf e r + leftOf e r .units) (s .entries) (λ i _. by-cases (about e (getD (s .entries) i blank)) (λ t. rw t (omega arith)) (λ t. rw t (omega arith))) in
-          omega (arith, tally-add (backOf e) (λ r. leftOf e r .units) (s .entries), tally-map (λ r. r .units) (leftOf e) (s .entries))
+          let each = total-equal (λ r. r .units) (λ r. backOf e r + leftOf e r .units) (s .entries) (λ r. by-cases (about e r) (λ t. rw t (omega arith)) (λ t. rw t (omega arith))) in
+          omega (arith, total-add (backOf e) (λ r. leftOf e r .units) (s .entries), total-map (λ r. r .units) (leftOf e) (s .entries))

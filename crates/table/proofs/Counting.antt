@@ -7,17 +7,18 @@ use borrow.Author.Tests.{eq-eqb, ne-eqb, eqb-true, eqb-false, leb-true, leb-fals
 use native.Mathlib.Omega.{arith}
 use lib.Dec.{leb, eqb}
 use lib.ListN.{getD}
-use Rattle.laws.proofs.Tests.{by-cases, both-true}
+use Rattle.laws.proofs.Sums.{total-most, total-add, total-each}
+use Rattle.laws.specs.Sums.{total}
+use Rattle.laws.proofs.Tests.{by-cases, both-true, eqb-sym}
 use Rattle.table.specs.declared.Entry.{Entry}
 use Rattle.table.specs.declared.Found.the-variants.{At}
 use Rattle.table.specs.declared.Station.{Station}
 use Rattle.table.specs.Numbers.{isFree, blank, own, ownIs, anyOf, nextAfter, issueFrom}
 use Rattle.table.specs.Sound.{Fit, Sound, ownTimes}
 use Rattle.table.specs.Step.{issue}
-use Rattle.table.specs.Table.{find, tally}
+use Rattle.table.specs.Table.{find}
 use Rattle.table.proofs.Issuing.{next-small}
-use Rattle.table.proofs.Tally.{tally-le, tally-add, tally-each, tally-any, tally-found, tally-none, once-le}
-use Rattle.table.proofs.Tests.{eqb-sym}
+use Rattle.table.proofs.Tally.{total-any, total-found, total-none-of, once-le}
 
 -- ---- numbers one after the other
 
@@ -38,10 +39,10 @@ along-none g zero c none = refl
 along-none g (suc n) c none = omega (arith, none c, along-none g n (nextAfter c) none)
 
 -- The sum over the numbers of sums over the records is the sum over the records of sums over the numbers.
-along-tally : (f : ℕ → Entry → ℕ) (rs : List Entry) (n c : ℕ) → along (λ k. tally (f k) rs) n c ≡ tally (λ r. along (λ k. f k r) n c) rs
+along-total : (f : ℕ → Entry → ℕ) (rs : List Entry) (n c : ℕ) → along (λ k. total (f k) rs) n c ≡ total (λ r. along (λ k. f k r) n c) rs
 unfolding along
-along-tally f rs zero c = omega (arith, tally-each 0 rs)
-along-tally f rs (suc n) c = omega (arith, along-tally f rs n (nextAfter c), tally-add (f c) (λ r. along (λ k. f k r) n (nextAfter c)) rs)
+along-total f rs zero c = omega (arith, total-each 0 rs)
+along-total f rs (suc n) c = omega (arith, along-total f rs n (nextAfter c), total-add (f c) (λ r. along (λ k. f k r) n (nextAfter c)) rs)
 
 -- how often a number is passed
 abbrev is : ℕ → ℕ → ℕ
@@ -91,12 +92,12 @@ issued-small (suc n) c rs h =
     by-cases (anyOf (ownIs c) rs) (λ t. rw t (issued-small n (nextAfter c) rs (next-small c h))) (λ t. rw t h)
 
 -- If a record has the number at which the search ends, every number that it passed over is some record's.
-all-used : (n c : ℕ) (rs : List Entry) → anyOf (ownIs (issueFrom n c rs)) rs ≡ true → n ≤ along (λ k. tally (ownTimes k) rs) n c
+all-used : (n c : ℕ) (rs : List Entry) → anyOf (ownIs (issueFrom n c rs)) rs ≡ true → n ≤ along (λ k. total (ownTimes k) rs) n c
 unfolding along issueFrom
 all-used zero c rs used = omega arith
 all-used (suc n) c rs used =
     by-cases (anyOf (ownIs c) rs)
-    (λ t. omega (arith, tally-any (ownIs c) rs t, all-used n (nextAfter c) rs (rw t at used)))
+    (λ t. omega (arith, total-any (ownIs c) rs t, all-used n (nextAfter c) rs (rw t at used)))
     (λ t. absurd (true≢false (sym (rw t at used) ∙ t)))
 
 -- A record has one own ID, and a free place none.
@@ -128,11 +129,11 @@ few-own n c r fit small few =
     rw t (omega (arith, one, passed-once (own r) n c (fit .id) small few)))
 
 -- Own IDs stay distinct where a record is added whose own ID no other has.
-pub own-once : (rs : List Entry) (r : Entry) (k : ℕ) → tally (ownTimes k) rs ≤ 1 → anyOf (ownIs (own r)) rs ≡ false → tally (ownTimes k) rs + ownTimes k r ≤ 1
+pub own-once : (rs : List Entry) (r : Entry) (k : ℕ) → total (ownTimes k) rs ≤ 1 → anyOf (ownIs (own r)) rs ≡ false → total (ownTimes k) rs + ownTimes k r ≤ 1
 own-once rs r k distinct unused =
     by-cases (eqb k (own r))
     (λ t.
-    let none : tally (ownTimes k) rs ≡ 0 = tally-none (ownTimes k) (ownIs k) rs (λ x u. rw u) (rw (eqb-true k (own r) t) unused) in
+    let none : total (ownTimes k) rs ≡ 0 = total-none-of (ownTimes k) (ownIs k) rs (λ x u. rw u) (rw (eqb-true k (own r) t) unused) in
     omega (arith, rw t at (own-times k r)))
     (λ t. omega (arith, rw t at (own-times k r)))
 
@@ -150,6 +151,6 @@ module _ (s : Station) (sound : Sound s) where
       let c = nextAfter (s .last) in
       let times : Entry → ℕ = λ r. along (λ k. ownTimes k r) 64 c in
       let free : Entry → ℕ = λ r. cond (isFree r) 1 0 in
-      let few = tally-le (λ r. times r + free r) (λ r. 1) (s .entries) (s .entries) refl (λ j h. few-own 64 c (getD (s .entries) j blank) (sound .fit j (omega (arith, sound .places))) (next-small (s .last) (sound .last)) (omega arith)) in
-      absurd (omega (arith, tally-found isFree s i found, tally-each 1 (s .entries), sound .places, tally-add times free (s .entries), all-used 64 c (s .entries) t, along-tally ownTimes (s .entries) 64 c)))
+      let few = total-most (λ r. times r + free r) (λ r. 1) (s .entries) (s .entries) blank refl (λ j h. few-own 64 c (getD (s .entries) j blank) (sound .fit j (omega (arith, sound .places))) (next-small (s .last) (sound .last)) (omega arith)) in
+      absurd (omega (arith, total-found isFree s i found, total-each 1 (s .entries), sound .places, total-add times free (s .entries), all-used 64 c (s .entries) t, along-total ownTimes (s .entries) 64 c)))
       (λ t. t)

@@ -7,13 +7,12 @@ use borrow.Author.Tests.{eqb-true}
 use native.Mathlib.Omega.{arith}
 use lib.Dec.{eqb}
 use lib.ListN.{getD}
-use Rattle.laws.proofs.Tests.{by-cases, both-true}
+use Rattle.laws.proofs.Tests.{by-cases, both-true, every, every-at}
 use Rattle.records.specs.declared.Record.{Record}
 use Rattle.table.specs.declared.Decision.{Decision}
 use Rattle.table.specs.declared.Entry.{Entry}
 use Rattle.table.specs.Events.{actions, actionOf, message, silence, decision, refusal, decide, lastWord, listsFit, setFits, prepared, stored, serving}
 use Rattle.table.specs.Numbers.{blank}
-use Rattle.table.proofs.Tests.{every, every-at}
 
 -- ---- where an action stands
 

@@ -6,7 +6,8 @@ use mathlib.Core.List.{List}
 use borrow.Author.Tests.{eqb-false}
 use native.Mathlib.Omega.{arith}
 use lib.Dec.{eqb}
-use lib.ListN.{getD}
+use Rattle.laws.proofs.Sums.{total-add, total-each, total-equal}
+use Rattle.laws.specs.Sums.{total}
 use Rattle.laws.proofs.Tests.{by-cases}
 use Rattle.records.specs.declared.Record.{Record}
 use Rattle.table.specs.declared.Entry.{Entry}
@@ -14,13 +15,13 @@ use Rattle.table.specs.declared.Found.the-variants.{At, Nothing}
 use Rattle.table.specs.declared.Station.{Station}
 use Rattle.table.specs.Events.{about}
 use Rattle.table.specs.Fields.{isKind, wellFormed}
-use Rattle.table.specs.Numbers.{isFree, blank}
+use Rattle.table.specs.Numbers.{isFree}
 use Rattle.table.specs.Sound.{Sound}
 use Rattle.table.specs.Step.{refused, failure, admission, taken, complete, stepOf}
-use Rattle.table.specs.Table.{find, tally}
+use Rattle.table.specs.Table.{find}
 use Rattle.table.proofs.Finding.{by-found, found-none}
 use Rattle.table.proofs.Rows.{start-step, full-step, crowded-step, empty-step, grant-step}
-use Rattle.table.proofs.Tally.{tally-found, tally-add, tally-each, tally-equal, tally-none}
+use Rattle.table.proofs.Tally.{total-found, total-none-of}
 
 -- how many records are in use
 abbrev free : Entry → ℕ
@@ -30,7 +31,7 @@ abbrev used : Entry → ℕ
 used r = cond (isFree r) 0 1
 
 abbrev pub inUse : Station → ℕ
-inUse s = tally used (s .entries)
+inUse s = total used (s .entries)
 
 one-of-two : (b : Bool) → cond b 0 1 + cond b 1 0 ≡ 1
 one-of-two true = refl
@@ -38,18 +39,18 @@ one-of-two false = refl
 
 module _ (s : Station) (sound : Sound s) where
   -- Each of the 64 places is free or in use.
-  all-places : inUse s + tally free (s .entries) ≡ 64
+  all-places : inUse s + total free (s .entries) ≡ 64
   all-places =
-      let both = tally-equal (λ r. used r + free r) (λ r. 1) (s .entries) (λ i _. one-of-two (isFree (getD (s .entries) i blank))) in
-      omega (arith, tally-add used free (s .entries), both, tally-each 1 (s .entries), sound .places)
+      let both = total-equal (λ r. used r + free r) (λ r. 1) (s .entries) (λ r. one-of-two (isFree r)) in
+      omega (arith, total-add used free (s .entries), both, total-each 1 (s .entries), sound .places)
 
   -- No place is found free exactly where 64 records are in use.
   none-free : find isFree s ≡ Nothing → inUse s ≡ 64
   none-free found =
-      omega (arith, all-places, tally-none free isFree (s .entries) (λ r t. rw t) (found-none isFree (s .entries) 0 found))
+      omega (arith, all-places, total-none-of free isFree (s .entries) (λ r t. rw t) (found-none isFree (s .entries) 0 found))
 
   some-free : (i : ℕ) → find isFree s ≡ At i → inUse s < 64
-  some-free i found = omega (arith, all-places, tally-found isFree s i found)
+  some-free i found = omega (arith, all-places, total-found isFree s i found)
 
   module _ (e : Record) (bearers : List ℕ) (room : ℕ) (formed : wellFormed e ≡ true) (kind : e .kind ≡ 9) where
     -- A start gets 4 where 64 records are in use, and else 0.

@@ -8,11 +8,12 @@ use native.Mathlib.Omega.{arith}
 use lib.Count.{ones, onesIn}
 use lib.Dec.{leb}
 use lib.ListN.{length}
+use Rattle.laws.specs.Sums.{total}
 use Rattle.laws.proofs.Tests.{both-true}
 use Rattle.records.specs.declared.Record.{Record}
 use Rattle.records.specs.Record.{little, recordOf, InRange, AreBytes}
 use Rattle.bearers.specs.Bearer.{recordsIn, allBearers}
-use Rattle.bearers.specs.Admission.{total, those, turnsFrom, freeAt, verdict}
+use Rattle.bearers.specs.Admission.{those, turnsFrom, freeAt, verdict}
 use Rattle.bearers.specs.Sets as sets
 use Rattle.table.specs.declared.Answer.{Answer}
 use Rattle.table.specs.declared.Station.{Station}

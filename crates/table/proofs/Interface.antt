@@ -9,6 +9,7 @@ use borrow.Author.Tests.{eqb-true, eq-eqb, ne-eqb, le-leb, lt-leb}
 use native.Mathlib.Omega.{arith}
 use lib.Dec.{leb, eqb}
 use lib.ListN.{getD}
+use Rattle.laws.proofs.Sums.{total-at, total-most, total-each}
 use Rattle.laws.proofs.Tests.{by-cases, both-true}
 use Rattle.records.specs.declared.Record.{Record}
 use Rattle.table.specs.declared.Answer.{Answer}
@@ -23,7 +24,6 @@ use Rattle.table.proofs.Answers.{takes-of, nine-of}
 use Rattle.table.proofs.Making.{made-issues, made, made-same}
 use Rattle.table.proofs.Sides.{nothing-new, turned-issues-none, turned-source, turned-target, turned-due}
 use Rattle.table.proofs.Soundness.{born-as, sound, sound-step}
-use Rattle.table.proofs.Tally.{tally-at, tally-le, tally-each}
 use Rattle.table.proofs.Turns.{Turn, starts, admits, turns, turn}
 use Rattle.table.proofs.Viewing.{passes, count-own, times-own, named-at}
 
@@ -54,7 +54,7 @@ module _ (s : Station) (sound : Sound s) where
   unfolding ids
   counted i used =
       ⊎-elim
-      (λ there. omega (arith, times-own i (s .entries), rw (there .2) at (tally-at (ownTimes i) (s .entries) (there .0) blank (omega (arith, there .1, sound .places)))))
+      (λ there. omega (arith, times-own i (s .entries), rw (there .2) at (total-at (ownTimes i) (s .entries) (there .0) blank (omega (arith, there .1, sound .places)))))
       (λ none. absurd (true≢false (rw (none .1) at used)))
       (named-at s sound i)
 
@@ -62,8 +62,8 @@ module _ (s : Station) (sound : Sound s) where
   small : count (leb 4096) (ids s) ≡ 0
   unfolding ids
   small =
-      let none = tally-le (passes (leb 4096)) (λ r. 0) (s .entries) (s .entries) refl (λ j h. each (getD (s .entries) j blank) (sound .fit j (omega (arith, sound .places)) .id)) in
-      omega (arith, count-own (leb 4096) (s .entries), tally-each 0 (s .entries))
+      let none = total-most (passes (leb 4096)) (λ r. 0) (s .entries) (s .entries) blank refl (λ j h. each (getD (s .entries) j blank) (sound .fit j (omega (arith, sound .places)) .id)) in
+      omega (arith, count-own (leb 4096) (s .entries), total-each 0 (s .entries))
     where
       each : (r : Entry) → own r < 4096 → passes (leb 4096) r ≤ 0
       each r h = by-cases (isFree r) (λ t. rw t (omega arith)) (λ t. rw (t, lt-leb 4096 (own r) h) (omega arith))

@@ -27,7 +27,6 @@ pub mod Sides
 pub mod Soundness
 pub mod Strangers
 pub mod Tally
-pub mod Tests
 pub mod Ticks
 pub mod Turns
 pub mod Units

@@ -8,6 +8,7 @@ use native.Mathlib.Omega.{arith}
 use lib.Dec.{eqb}
 use lib.ListN.{length, getD, set}
 use lib.Seq.{getD-set-same, getD-set-other}
+use Rattle.laws.proofs.Sums.{total-set}
 use Rattle.laws.proofs.Tests.{by-cases}
 use Rattle.table.specs.declared.Answer.{Answer}
 use Rattle.table.specs.declared.Entry.{Entry}
@@ -21,7 +22,7 @@ use Rattle.table.specs.Views.{count, ids, last, named, Issues}
 use Rattle.table.proofs.Counting.{own-equal, issue-unused}
 use Rattle.table.proofs.Finding.{found-here, set-each}
 use Rattle.table.proofs.Placing.{found-place}
-use Rattle.table.proofs.Tally.{tally-set, tally-found, none-at}
+use Rattle.table.proofs.Tally.{total-found, none-at}
 use Rattle.table.proofs.Viewing.{passes, count-own, own-length, walk-to, named-none, named-is, over}
 
 -- A record was made: none had the own ID, it is found by that now, and by every other own ID the same is found as before.
@@ -49,7 +50,7 @@ module _ (s : Station) (sound : Sound s) (k : ℕ) (found : find isFree s ≡ At
   unfolding ids last
   made-issues a is =
       record {
-        room = omega (arith, own-length (s .entries), sound .places, tally-found isFree s k found);
+        room = omega (arith, own-length (s .entries), sound .places, total-found isFree s k found);
         walk = walk-to 64 (s .last) (s .entries) (issue-unused s sound k found);
         latest = rw is;
         more = λ test. rw is (more test);
@@ -57,7 +58,7 @@ module _ (s : Station) (sound : Sound s) (k : ℕ) (found : find isFree s ≡ At
     where
       more : (test : ℕ → Bool) → count test (ids (add k (issue s) r s)) ≡ count test (ids s) + cond (test (issue s)) 1 0
       more test =
-          let there = tally-set (passes test) (s .entries) k r blank place in
+          let there = total-set (passes test) (s .entries) k r blank place in
           let none : passes test (getD (s .entries) k blank) ≡ 0 = rw free in
           let one : passes test r ≡ cond (test (issue s)) 1 0 = rw (live, mine) in
           omega (arith, count-own test (s .entries), count-own test (set (s .entries) k r))

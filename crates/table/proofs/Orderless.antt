@@ -8,7 +8,9 @@ use native.Mathlib.Omega.{arith}
 use lib.Dec.{leb, eqb}
 use lib.ListN.{length, getD, set, length-set}
 use lib.Seq.{getD-set-same, getD-set-other}
-use Rattle.laws.proofs.Tests.{by-cases, both-true}
+use Rattle.laws.proofs.Sums.{total-at, total-set}
+use Rattle.laws.specs.Sums.{total}
+use Rattle.laws.proofs.Tests.{by-cases, both-true, below-at}
 use Rattle.records.specs.declared.Record.{Record}
 use Rattle.table.specs.declared.Answer.{Answer}
 use Rattle.table.specs.declared.Decision.{Decision}
@@ -21,7 +23,7 @@ use Rattle.table.specs.Fields.{wellFormed}
 use Rattle.table.specs.Numbers.{isFree, blank, own}
 use Rattle.table.specs.Sound.{Sound, ownTimes, heldTimes}
 use Rattle.table.specs.Step.{aboutOne, carried, isReset, stepOf}
-use Rattle.table.specs.Table.{find, put, tally, leftOf, reset}
+use Rattle.table.specs.Table.{find, put, leftOf, reset}
 use Rattle.table.proofs.Counting.{own-itself}
 use Rattle.table.proofs.Finding.{found-here, found-none, set-each}
 use Rattle.table.proofs.Keys.{isOf, keyed-means}
@@ -30,8 +32,7 @@ use Rattle.table.proofs.Placing.{found-place}
 use Rattle.table.proofs.Resetting.{reset-at}
 use Rattle.table.proofs.Rows.{step-reset}
 use Rattle.table.proofs.Strangers.{about-of, answers-concern, step-about}
-use Rattle.table.proofs.Tally.{tally-at, tally-set, none-at}
-use Rattle.table.proofs.Tests.{below-at}
+use Rattle.table.proofs.Tally.{none-at}
 
 -- every record of a neighbour that one station has stands in another
 abbrev pub Has : ℕ → Station → Station → Type 0
@@ -45,12 +46,12 @@ pub record Same (n : ℕ) (s t : Station) : Type 0 where
 -- ---- a record is found at one place only
 
 -- What at most one record counts for, two places do not.
-pub once-at : (f : Entry → ℕ) (rs : List Entry) (i j : ℕ) → f blank ≡ 0 → i < length rs → j < length rs → tally f rs ≤ 1 → f (getD rs i blank) ≡ 1 → f (getD rs j blank) ≡ 1 → i ≡ j
+pub once-at : (f : Entry → ℕ) (rs : List Entry) (i j : ℕ) → f blank ≡ 0 → i < length rs → j < length rs → total f rs ≤ 1 → f (getD rs i blank) ≡ 1 → f (getD rs j blank) ≡ 1 → i ≡ j
 once-at f rs i j none h k once first second =
     by-cases (eqb j i) (λ t. sym (eqb-true j i t))
     (λ t.
-    let less = tally-set f rs i blank blank h in
-    let more = tally-at f (set rs i blank) j blank (omega (arith, length-set rs i blank)) in
+    let less = total-set f rs i blank blank h in
+    let more = total-at f (set rs i blank) j blank (omega (arith, length-set rs i blank)) in
     absurd (omega (arith, rw (getD-set-other rs i j blank blank (eqb-false j i t)) at more)))
 
 -- By one test of the table of keys: the kinds 2 to 6 compare neighbour and Old ID, and look at outgoing records or at held ones.

@@ -4,6 +4,7 @@ use mathlib.Core.Bool.{Bool, true≢false}
 use mathlib.Core.Path.{_≡_}
 use native.Mathlib.Omega.{arith}
 use lib.ListN.{getD}
+use Rattle.laws.proofs.Sums.{total-at}
 use Rattle.records.specs.declared.Record.{Record}
 use Rattle.table.specs.declared.Entry.{Entry}
 use Rattle.table.specs.declared.Found.the-variants.{At}
@@ -14,7 +15,6 @@ use Rattle.table.specs.Sound.{Sound}
 use Rattle.table.specs.Table.{find, soonest, at, Puts}
 use Rattle.table.proofs.Deciding.{decide-units}
 use Rattle.table.proofs.Finding.{found-here, due-at}
-use Rattle.table.proofs.Tally.{tally-at}
 
 module _ (s : Station) (sound : Sound s) where
   -- A place that is found is one of the 64.
@@ -28,7 +28,7 @@ module _ (s : Station) (sound : Sound s) where
   -- A decision about a record can be carried out.
   pub decided-puts : (e : Record) (i deadline : ℕ) → i < 64 → Puts i (decide e (getD (s .entries) i blank) deadline .entry) s
   decided-puts e i deadline h =
-      let units = tally-at (λ r. r .units) (s .entries) i blank (omega (arith, sound .places)) in
+      let units = total-at (λ r. r .units) (s .entries) i blank (omega (arith, sound .places)) in
       let fewer = decide-units e (getD (s .entries) i blank) deadline in
       record {
         place = h;

@@ -5,6 +5,7 @@ use mathlib.Core.List.{List}
 use native.Mathlib.Omega.{arith}
 use lib.ListN.{getD}
 use lib.Seq.{set-getD}
+use Rattle.laws.proofs.Sums.{total-at}
 use Rattle.records.specs.declared.Record.{Record}
 use Rattle.table.specs.declared.Answer.{Answer}
 use Rattle.table.specs.declared.Decision.{Decision}
@@ -20,7 +21,6 @@ use Rattle.table.proofs.Parts.{Part, as-refusal, as-response, as-failur
 use Rattle.table.proofs.Placing.{found-place}
 use Rattle.table.proofs.Resetting.{same-station}
 use Rattle.table.proofs.Rows.{due-ends}
-use Rattle.table.proofs.Tally.{tally-at}
 use Rattle.table.proofs.Ticks.{soonest-due}
 
 -- what holds of an answer, by its reply
@@ -41,7 +41,7 @@ decide-or P e r deadline done six seven =
 -- A place may be given the record that it has: the units in use are then what they were.
 put-same : (s : Station) (i : ℕ) → Sound s → i < 64 → put i (getD (s .entries) i blank) s ≡ s
 put-same s i sound place =
-    let units = tally-at (λ r. r .units) (s .entries) i blank (omega (arith, sound .places)) in
+    let units = total-at (λ r. r .units) (s .entries) i blank (omega (arith, sound .places)) in
     let used : s .used - getD (s .entries) i blank .units + getD (s .entries) i blank .units ≡ s .used = omega (arith, sound .sum) in
     same-station s (set-getD (s .entries) i blank) used
 

@@ -7,16 +7,16 @@ use native.Mathlib.Numerals.{add-one}
 use native.Mathlib.Omega.{arith}
 use lib.ListN.{length, getD, set, take, drop, length-append, length-drop, length-map, length-take, take-append-drop, drop-of-length-le, List·getD-map}
 use lib.Seq.{drop-cons, take-suc, set-at, getD-at, length-take-le, take-all, append-snoc}
-use Rattle.laws.proofs.Tests.{by-cases}
+use Rattle.laws.proofs.Sums.{total-append, total-le}
+use Rattle.laws.specs.Sums.{total}
+use Rattle.laws.proofs.Tests.{by-cases, on-either}
 use Rattle.records.specs.declared.Record.{Record}
 use Rattle.table.specs.declared.Entry.{Entry}
 use Rattle.table.specs.declared.Station.{Station}
 use Rattle.table.specs.Events.{key, keyed, about}
 use Rattle.table.specs.Numbers.{blank}
 use Rattle.table.specs.Sound.{Sound}
-use Rattle.table.specs.Table.{holding, Puts, put, tally, leftOf, backOf, reset}
-use Rattle.table.proofs.Tally.{tally-append, tally-le}
-use Rattle.table.proofs.Tests.{same-choice}
+use Rattle.table.specs.Table.{holding, Puts, put, leftOf, backOf, reset}
 
 -- the record at a place ends, if an event is about it
 abbrev pub endedBy : (ℕ → ℕ) → ℕ → Record → Station → Station
@@ -25,7 +25,7 @@ endedBy by i e s = cond (keyed by e (getD (s .entries) i blank)) (put i blank s)
 -- A reset's table holds at each place what the reset makes of the record there.
 pub reset-at : (e : Record) (s : Station) (i : ℕ) → getD (reset e s .entries) i blank ≡ leftOf e (getD (s .entries) i blank)
 reset-at e s i =
-    subst (λ d. getD (map (leftOf e) (s .entries)) i d ≡ leftOf e (getD (s .entries) i blank)) (same-choice (about e blank) blank) (List·getD-map (leftOf e) (s .entries) i blank)
+    subst (λ d. getD (map (leftOf e) (s .entries)) i d ≡ leftOf e (getD (s .entries) i blank)) (on-either (about e blank) blank) (List·getD-map (leftOf e) (s .entries) i blank)
 
 -- It takes back no more than the record's units.
 pub back-le : (e : Record) (r : Entry) → backOf e r ≤ r .units
@@ -33,7 +33,7 @@ back-le e r = by-cases (about e r) (λ t. rw t (omega arith)) (λ t. rw t (omega
 
 -- the station with the records before a place reset
 abbrev pub partly : Record → ℕ → Station → Station
-partly e i s = holding (map (leftOf e) (take i (s .entries)) ++ drop i (s .entries)) (s .last) (s .used - tally (backOf e) (take i (s .entries))) s
+partly e i s = holding (map (leftOf e) (take i (s .entries)) ++ drop i (s .entries)) (s .last) (s .used - total (backOf e) (take i (s .entries))) s
 
 -- Two stations are the same where their records and the units in use are.
 pub same-station : (s : Station) {xs ys : List Entry} {m n : ℕ} → xs ≡ ys → m ≡ n → holding xs (s .last) m s ≡ holding ys (s .last) n s
@@ -55,13 +55,13 @@ module _ (f : Entry → Entry) (es : List Entry) (i : ℕ) (h : i < length es) w
   changed-set r = rw (drop-cons es i blank h) (set-at (map f (take i es)) (getD es i blank) (drop (suc i) es) r i changed-length)
 
 -- The sum over one element more.
-tally-next : (g : Entry → ℕ) (es : List Entry) (i : ℕ) → i < length es → tally g (take (i + 1) es) ≡ tally g (take i es) + g (getD es i blank)
-unfolding tally
-tally-next g es i h = rw (add-one, take-suc es i blank h, tally-append g (take i es) (getD es i blank ∷ [])) (omega arith)
+total-next : (g : Entry → ℕ) (es : List Entry) (i : ℕ) → i < length es → total g (take (i + 1) es) ≡ total g (take i es) + g (getD es i blank)
+unfolding total
+total-next g es i h = rw (add-one, take-suc es i blank h, total-append g (take i es) (getD es i blank ∷ [])) (omega arith)
 
 -- Before the first place nothing is reset, after the last all.
 pub partly-none : (e : Record) (s : Station) → s ≡ partly e 0 s
-unfolding tally
+unfolding total
 partly-none e s = same-station s refl (omega arith)
 
 module _ (e : Record) (s : Station) (sound : Sound s) where
@@ -77,16 +77,16 @@ module _ (e : Record) (s : Station) (sound : Sound s) where
     inside = omega (arith, sound .places)
 
     -- The units given back so far and this record's are in use.
-    enough : tally (backOf e) (take i (s .entries)) + getD (s .entries) i blank .units ≤ s .used
+    enough : total (backOf e) (take i (s .entries)) + getD (s .entries) i blank .units ≤ s .used
     enough =
         let units : Entry → ℕ = λ r. r .units in
         omega (
           arith,
           sound .sum,
-          ap (tally units) (take-append-drop (i + 1) (s .entries)),
-          tally-append units (take (i + 1) (s .entries)) (drop (i + 1) (s .entries)),
-          tally-next units (s .entries) i inside,
-          tally-le (backOf e) units (take i (s .entries)) (take i (s .entries)) refl (λ j _. back-le e (getD (take i (s .entries)) j blank)),
+          ap (total units) (take-append-drop (i + 1) (s .entries)),
+          total-append units (take (i + 1) (s .entries)) (drop (i + 1) (s .entries)),
+          total-next units (s .entries) i inside,
+          total-le (backOf e) units (take i (s .entries)) (back-le e),
         )
 
     pub partly-puts : Puts i blank (partly e i s)
@@ -111,11 +111,11 @@ module _ (e : Record) (s : Station) (sound : Sound s) where
         rw (changed-here (leftOf e) es i inside, t)
         (same-station s
         (changed-set (leftOf e) es i inside blank ∙ sym (changed-next (leftOf e) es i inside ∙ ap joined gone))
-        (omega (arith, given, tally-next (backOf e) es i inside, enough))))
+        (omega (arith, given, total-next (backOf e) es i inside, enough))))
         (λ t.
         let stays : leftOf e r ≡ r = rw t in
         let none : backOf e r ≡ 0 = rw t in
         rw (changed-here (leftOf e) es i inside, t)
         (same-station s
         (ap (λ (l : List Entry). map (leftOf e) (take i es) ++ l) (drop-cons es i blank inside) ∙ sym (changed-next (leftOf e) es i inside ∙ ap joined stays))
-        (omega (arith, none, tally-next (backOf e) es i inside))))
+        (omega (arith, none, total-next (backOf e) es i inside))))

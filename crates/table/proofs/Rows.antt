@@ -7,7 +7,7 @@ use borrow.Author.Tests.{eqb-true, leb-true, le-leb}
 use native.Mathlib.Omega.{arith}
 use lib.Dec.{leb, ltb, eqb}
 use lib.ListN.{getD}
-use Rattle.laws.proofs.Tests.{by-cases, both-true}
+use Rattle.laws.proofs.Tests.{by-cases, both-true, below, below-at, same-at}
 use Rattle.records.specs.declared.Record.{Record}
 use Rattle.table.specs.declared.Answer.{Answer}
 use Rattle.table.specs.declared.Decision.{Decision}
@@ -25,7 +25,6 @@ use Rattle.table.proofs.Finding.{found-here}
 use Rattle.table.proofs.Forms.{kind-small}
 use Rattle.table.proofs.Keys.{keyed-means}
 use Rattle.table.proofs.Placing.{found-place}
-use Rattle.table.proofs.Tests.{below, below-at, same-at}
 
 -- ---- the rows
 

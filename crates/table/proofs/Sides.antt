@@ -9,6 +9,7 @@ use borrow.Author.Tests.{eqb-true, eq-eqb, ne-eqb, leb-true}
 use native.Mathlib.Omega.{arith}
 use lib.Dec.{leb, eqb}
 use lib.ListN.{getD}
+use Rattle.laws.proofs.Sums.{total-most}
 use Rattle.laws.proofs.Tests.{by-cases, both-true}
 use Rattle.records.specs.declared.Record.{Record}
 use Rattle.table.specs.declared.Answer.{Answer}
@@ -18,7 +19,6 @@ use Rattle.table.specs.Numbers.{isFree, isOutgoing, blank, ownIs}
 use Rattle.table.specs.Sound.{Sound}
 use Rattle.table.specs.Views.{ids, last, NotOut, Preparing, Prepared, NotHeld, Held, outOf, heldOf, dueOf, named, out, held, due, sent, ending, to, IssuesNone, Ends, failed, moved, otherwise, Source, readies, keeps, Shrinks, Target, denies, arrives, holds}
 use Rattle.table.proofs.Counting.{own-equal}
-use Rattle.table.proofs.Tally.{tally-le}
 use Rattle.table.proofs.Turns.{Turned, Change, stays, stores, prepares, serves, ends, Final, incoming, by-failure, by-release, by-other, Says, other, refuses, releases, isOther}
 use Rattle.table.proofs.Viewing.{passes, count-own, named-is, named-own, over}
 
@@ -135,7 +135,7 @@ module _ (s : Station) (sound : Sound s) (e : Record) (a : Answer) (after : Soun
       record {
         latest = t .last;
         fewer = λ test.
-            let across = tally-le (passes test) (passes test) (a .station .entries) (s .entries) (after .places ∙ sym (sound .places)) (λ j h. passes-kept (t .change j (omega (arith, after .places))) test) in
+            let across = total-most (passes test) (passes test) (a .station .entries) (s .entries) blank (after .places ∙ sym (sound .places)) (λ j h. passes-kept (t .change j (omega (arith, after .places))) test) in
             omega (arith, count-own test (s .entries), count-own test (a .station .entries));
       }
 

@@ -7,6 +7,8 @@ use borrow.Author.Tests.{eqb-true, leb-true}
 use native.Mathlib.Omega.{arith}
 use lib.Dec.{leb, eqb}
 use lib.ListN.{length, getD, length-replicate, getD-replicate}
+use Rattle.laws.proofs.Sums.{total-replicate}
+use Rattle.laws.specs.Sums.{total}
 use Rattle.laws.proofs.Tests.{by-cases, both-true}
 use Rattle.records.specs.declared.Record.{Record}
 use Rattle.bearers.specs.Admission.{judgeable}
@@ -19,7 +21,7 @@ use Rattle.table.specs.Numbers.{isFree, isHeld, own, blank}
 use Rattle.table.specs.Reached.{Reached, born, stepped}
 use Rattle.table.specs.Sound.{Fit, Sound, ownTimes, heldTimes}
 use Rattle.table.specs.Step.{issue, stepOf, bornOf, fresh, isTimer, settled, started, heldFor, admission, taken, freeUnits}
-use Rattle.table.specs.Table.{find, at, put, add, tally}
+use Rattle.table.specs.Table.{find, at, put, add}
 use Rattle.table.proofs.Changes.{sound-at, sound-put, sound-add, sound-reset}
 use Rattle.table.proofs.Counting.{issue-small, issue-unused, own-once}
 use Rattle.table.proofs.Deciding.{decide-units}
@@ -29,7 +31,7 @@ use Rattle.table.proofs.Forms.{time-within}
 use Rattle.table.proofs.Parts.{Part, as-refusal, as-response, as-failure, as-grant, as-start, as-reset, as-idle, as-tick, as-event, part}
 use Rattle.table.proofs.Placing.{found-place, due-place}
 use Rattle.table.proofs.Requests.{units-free}
-use Rattle.table.proofs.Tally.{tally-none, tally-replicate}
+use Rattle.table.proofs.Tally.{total-none-of}
 
 -- ---- one step
 
@@ -53,19 +55,19 @@ sound-decided s sound e i deadline place low high =
 module _ (s : Station) (sound : Sound s) where
   -- A record that fits may be made at a free place, with the own ID that is issued.
   sound-made : (i : ℕ) (r : Entry) → find isFree s ≡ At i → Fit r → own r ≡ issue s
-      → ((n o : ℕ) → tally (heldTimes n o) (s .entries) + heldTimes n o r ≤ 1)
+      → ((n o : ℕ) → total (heldTimes n o) (s .entries) + heldTimes n o r ≤ 1)
       → s .used + r .units ≤ s .capacity → Sound (add i (issue s) r s)
   sound-made i r found fit issued held units =
       sound-add s sound i r (found-place s sound isFree i found) fit (issue s) (issue-small s sound) (found-here isFree s i found .1)
       (λ k. own-once (s .entries) r k (sound .distinct k) (rw issued (issue-unused s sound i found))) held units
 
   -- Where a request is about no record, none is held for its neighbour and its Old ID but the one that it makes.
-  held-once : (e : Record) (bytes : List ℕ) → e .kind ≡ 1 → find (about e) s ≡ Nothing → (n o : ℕ) → tally (heldTimes n o) (s .entries) + heldTimes n o (heldFor e (admission bytes s) s) ≤ 1
+  held-once : (e : Record) (bytes : List ℕ) → e .kind ≡ 1 → find (about e) s ≡ Nothing → (n o : ℕ) → total (heldTimes n o) (s .entries) + heldTimes n o (heldFor e (admission bytes s) s) ≤ 1
   held-once e bytes one none n o =
       by-cases (eqb (e .neighbour) n && eqb (e .old .0) o)
       (λ t.
       let both = both-true (eqb (e .neighbour) n) (eqb (e .old .0) o) t in
-      let other = tally-none (heldTimes (e .neighbour) (e .old .0)) (about e) (s .entries) (λ r. held-about e r one) (found-none (about e) (s .entries) 0 none) in
+      let other = total-none-of (heldTimes (e .neighbour) (e .old .0)) (about e) (s .entries) (λ r. held-about e r one) (found-none (about e) (s .entries) 0 none) in
       rw (t, ← eqb-true (e .neighbour) n (both .0), ← eqb-true (e .old .0) o (both .1)) (omega arith))
       (λ t. rw t (omega (arith, sound .unique n o)))
 
@@ -108,9 +110,9 @@ sound-fresh capacity prep overall guard most p o g =
     record {
       places = length-replicate 64 blank;
       fit = λ i h. rw (getD-replicate 64 i blank blank h) fit-blank;
-      distinct = λ k. omega (arith, tally-replicate (ownTimes k) 64 blank refl);
-      unique = λ n o. omega (arith, tally-replicate (heldTimes n o) 64 blank refl);
-      sum = sym (tally-replicate (λ r. r .units) 64 blank refl);
+      distinct = λ k. omega (arith, total-replicate (ownTimes k) 64 blank refl);
+      unique = λ n o. omega (arith, total-replicate (heldTimes n o) 64 blank refl);
+      sum = sym (total-replicate (λ r. r .units) 64 blank refl);
       capacity = (omega arith, most);
       clock = omega arith;
       last = omega arith;

@@ -7,7 +7,7 @@ use borrow.Author.Tests.{eqb-true, ne-eqb, le-leb, leb-true, not-true}
 use native.Mathlib.Omega.{arith}
 use lib.Dec.{leb, eqb}
 use lib.ListN.{length, getD}
-use Rattle.laws.proofs.Tests.{by-cases, both-true}
+use Rattle.laws.proofs.Tests.{by-cases, both-true, below-at}
 use Rattle.records.specs.declared.Record.{Record}
 use Rattle.table.specs.declared.Entry.{Entry}
 use Rattle.table.specs.declared.Found.{Found}
@@ -19,7 +19,6 @@ use Rattle.table.specs.Step.{refused, aboutOne, stepOf}
 use Rattle.table.specs.Table.{find}
 use Rattle.table.proofs.Finding.{by-found, found-here}
 use Rattle.table.proofs.Keys.{isOf, keyed-means}
-use Rattle.table.proofs.Tests.{below-at}
 
 -- the kinds that concern a neighbour: its messages 1 to 7, and the loss of it
 abbrev pub concernsNeighbour : ℕ → Bool

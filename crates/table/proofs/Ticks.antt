@@ -9,7 +9,9 @@ use native.Mathlib.Omega.{arith}
 use lib.Dec.{leb, ltb, eqb}
 use lib.ListN.{length, getD, set}
 use lib.Seq.{getD-set-same, getD-set-other}
-use Rattle.laws.proofs.Tests.{by-cases, both-true}
+use Rattle.laws.proofs.Sums.{total-le, total-set, total-each}
+use Rattle.laws.specs.Sums.{total}
+use Rattle.laws.proofs.Tests.{by-cases, both-true, neither}
 use Rattle.records.specs.declared.Record.{Record}
 use Rattle.table.specs.declared.Answer.{Answer}
 use Rattle.table.specs.declared.Best.{Best}
@@ -21,12 +23,11 @@ use Rattle.table.specs.Fields.{wellFormed}
 use Rattle.table.specs.Numbers.{isFree, blank, own, anyOf}
 use Rattle.table.specs.Sound.{Sound}
 use Rattle.table.specs.Step.{refused, stepOf}
-use Rattle.table.specs.Table.{dueBy, sooner, dueFrom, soonest, at, put, tally}
+use Rattle.table.specs.Table.{dueBy, sooner, dueFrom, soonest, at, put}
 use Rattle.table.proofs.Finding.{at-nothing, by-found}
 use Rattle.table.proofs.Keys.{keyed-means}
 use Rattle.table.proofs.Rows.{early-step, tick-step, due-ends}
-use Rattle.table.proofs.Tally.{tally-le, tally-set, tally-each, tally-none, once-le}
-use Rattle.table.proofs.Tests.{neither}
+use Rattle.table.proofs.Tally.{total-none-of, once-le}
 
 -- ---- the order: by deadline, then by own ID
 
@@ -165,7 +166,7 @@ module _ (e : Record) (busy : (r : Entry) → due e r ≡ true → isFree r ≡ 
 
 -- the records that are due, and a tick repeated
 abbrev pub dues : Record → Station → ℕ
-dues e s = tally (dueTimes e) (s .entries)
+dues e s = total (dueTimes e) (s .entries)
 
 unfoldable pub ticks : ℕ → Record → Station → Station
 ticks zero e s = s
@@ -231,14 +232,14 @@ module _ (e : Record) (kind : e .kind ≡ 15) where
       tick-fewer =
           by-found (soonest e s)
           (λ found.
-          let none = tally-none (dueTimes e) (due e) (s .entries) (λ r t. rw t) (soonest-none s found) in
+          let none = total-none-of (dueTimes e) (due e) (s .entries) (λ r t. rw t) (soonest-none s found) in
           rw (tick-none found) (refl, inr (refl, none, none)))
           (λ i found.
           let d = soonest-due s i found in
           let one = tick-one i found in
           let counted : dueTimes e (getD (s .entries) i blank) ≡ 1 = rw (d .1, le-leb (getD (s .entries) i blank .deadline) (e .time) (d .2)) in
           let freed : dueTimes e blank ≡ 0 = rw none-due in
-          let fewer : tally (dueTimes e) (set (s .entries) i blank) + 1 ≡ dues e s = omega (arith, tally-set (dueTimes e) (s .entries) i blank blank (d .0)) in
+          let fewer : total (dueTimes e) (set (s .entries) i blank) + 1 ≡ dues e s = omega (arith, total-set (dueTimes e) (s .entries) i blank blank (d .0)) in
           (rw (one .1), inl (one .0, rw (one .1) fewer)))
 
     -- A tick with another reply than 8 is at a time not before the clock.
@@ -294,7 +295,7 @@ module _ (e : Record) (kind : e .kind ≡ 15) where
     -- So it has reply 9 after at most 64 steps, and then none is due.
     pub ticks-64 : (s : Station) → Sound s → ltb (e .time) (s .clock) ≡ false → (dues e s ≤ 64) × (dues e (ticks 64 e s) ≡ 0) × (stepOf (ticks 64 e s) e [] 0 .outcome .reply ≡ 9)
     ticks-64 s sound late =
-        let few = tally-le (dueTimes e) (λ r. 1) (s .entries) (s .entries) refl (λ i _. once-le (due e (getD (s .entries) i blank)) true (λ _. refl)) in
-        let most : dues e s ≤ 64 = omega (arith, few, tally-each 1 (s .entries), sound .places) in
+        let few = total-le (dueTimes e) (λ r. 1) (s .entries) (λ r. once-le (due e r) true (λ _. refl)) in
+        let most : dues e s ≤ 64 = omega (arith, few, total-each 1 (s .entries), sound .places) in
         let end = ticks-end 64 s late most in
         (most, end .0, end .1)

@@ -7,7 +7,9 @@ use borrow.Author.Tests.{eqb-true, eqb-false, leb-true, lt-leb, ne-eqb}
 use native.Mathlib.Omega.{arith}
 use lib.Dec.{leb, eqb}
 use lib.ListN.{getD}
-use Rattle.laws.proofs.Tests.{by-cases, both-true}
+use Rattle.laws.proofs.Sums.{total-at, total-le, total-throughout}
+use Rattle.laws.specs.Sums.{total}
+use Rattle.laws.proofs.Tests.{by-cases, both-true, neither, on-either, same-at}
 use Rattle.records.specs.declared.Record.{Record}
 use Rattle.table.specs.declared.Answer.{Answer}
 use Rattle.table.specs.declared.Entry.{Entry}
@@ -19,15 +21,13 @@ use Rattle.table.specs.Fields.{wellFormed}
 use Rattle.table.specs.Numbers.{isHeld, isIncoming, blank}
 use Rattle.table.specs.Sound.{Fit, Sound}
 use Rattle.table.specs.Step.{carried, isReset, stepOf, admission, taken}
-use Rattle.table.specs.Table.{find, soonest, at, tally, backOf}
+use Rattle.table.specs.Table.{find, soonest, at, backOf}
 use Rattle.table.specs.Views.{recordAt}
 use Rattle.table.proofs.Deciding.{every-action, leaves, decide-as}
 use Rattle.table.proofs.Parts.{Part, as-refusal, as-response, as-failure, as-grant, as-start, as-reset, as-idle, as-tick, as-event, part}
 use Rattle.table.proofs.Placing.{found-place, due-place}
 use Rattle.table.proofs.Resetting.{back-le}
 use Rattle.table.proofs.Rows.{reset-kind, step-reset}
-use Rattle.table.proofs.Tally.{tally-at, tally-le, tally-equal}
-use Rattle.table.proofs.Tests.{neither, same-choice, same-at}
 use Rattle.table.proofs.Ticks.{tick-handles, tick-one}
 
 -- ---- what is given out and taken back
@@ -52,7 +52,7 @@ abbrev pub freedBy : ℕ → Record → Station → ℕ
 freedBy k e s =
     cond (endsNone k) 0
     (cond (eqb k 15) (unitsAt (soonest e s) s)
-    (cond (isReset k) (tally (heldUnits e) (s .entries))
+    (cond (isReset k) (total (heldUnits e) (s .entries))
     (unitsAt (find (about e) s) s)))
 
 abbrev pub freed : Record → Station → ℕ
@@ -116,10 +116,10 @@ reset-held e r reset fit =
 
 module _ (s : Station) (sound : Sound s) (e : Record) where
   -- What a reset takes back is what the held records of its neighbour have, and at most what is in use.
-  reset-back : isReset (e .kind) ≡ true → (tally (backOf e) (s .entries) ≡ tally (heldUnits e) (s .entries)) × (tally (backOf e) (s .entries) ≤ s .used)
+  reset-back : isReset (e .kind) ≡ true → (total (backOf e) (s .entries) ≡ total (heldUnits e) (s .entries)) × (total (backOf e) (s .entries) ≤ s .used)
   reset-back kinds = (
-    tally-equal (backOf e) (heldUnits e) (s .entries) (λ i h. reset-held e (getD (s .entries) i blank) kinds (sound .fit i (omega (arith, sound .places)))),
-    omega (arith, sound .sum, tally-le (backOf e) (λ r. r .units) (s .entries) (s .entries) refl (λ i _. back-le e (getD (s .entries) i blank))),
+    total-throughout (backOf e) (heldUnits e) (s .entries) blank (λ i h. reset-held e (getD (s .entries) i blank) kinds (sound .fit i (omega (arith, sound .places)))),
+    omega (arith, sound .sum, total-le (backOf e) (λ r. r .units) (s .entries) (back-le e)),
   )
 
 -- ---- one step
@@ -131,7 +131,7 @@ module _ (s : Station) (sound : Sound s) (e : Record) (bearers : List ℕ) where
       → Accounts (carried i (decide e (getD (s .entries) i blank) deadline) (at time s)) e bearers s
   carried-accounts i deadline time place other frees =
       let r = getD (s .entries) i blank in
-      let back = tally-at (λ x. x .units) (s .entries) i blank (omega (arith, sound .places)) in
+      let back = total-at (λ x. x .units) (s .entries) i blank (omega (arith, sound .places)) in
       let enough : r .units ≤ s .used = omega (arith, sound .sum) in
       decide-as (λ d. Accounts (carried i d (at time s)) e bearers s) e r deadline
       (record { units = omega arith; nothing = λ _. refl })
@@ -150,7 +150,7 @@ module _ (s : Station) (sound : Sound s) (e : Record) (bearers : List ℕ) where
   part-accounts (as-grant i _ one _ _ _) = record { units = rw one (omega arith); nothing = λ _. refl }
   part-accounts (as-start i _ nine _) = record { units = rw nine (omega arith); nothing = λ _. refl }
   part-accounts (as-reset kinds) =
-      let frees : freed e s ≡ tally (heldUnits e) (s .entries) = reset-kind (λ k. freedBy k e s ≡ tally (heldUnits e) (s .entries)) (e .kind) refl refl kinds in
+      let frees : freed e s ≡ total (heldUnits e) (s .entries) = reset-kind (λ k. freedBy k e s ≡ total (heldUnits e) (s .entries)) (e .kind) refl refl kinds in
       let other : eqb (e .kind) 1 ≡ false = reset-kind (λ k. eqb k 1 ≡ false) (e .kind) refl refl kinds in
       record { units = rw (frees, other) (omega (arith, reset-back s sound e kinds)); nothing = λ f. absurd (true≢false f) }
   part-accounts (as-idle _ _) = record { units = omega arith; nothing = λ _. refl }
@@ -180,10 +180,10 @@ module _ (a : Answer) (e : Record) (bearers : List ℕ) (s : Station) (account :
 
   -- A kind that ends no record takes nothing back, and one that is no request gives nothing out.
   none-back : endsNone (e .kind) ≡ true → takenBack a e s ≡ 0
-  none-back kind = rw kind (same-choice (leavesAll (a .outcome .ending)) 0)
+  none-back kind = rw kind (on-either (leavesAll (a .outcome .ending)) 0)
 
   none-out : eqb (e .kind) 1 ≡ false → givenOut a e bearers s ≡ 0
-  none-out other = rw other (same-choice (eqb (a .outcome .reply) 0) 0)
+  none-out other = rw other (on-either (eqb (a .outcome .reply) 0) 0)
 
   granted-account : e .kind ≡ 1 → a .outcome .reply ≡ 0 → a .station .used ≡ s .used + admission (taken e bearers) s .units
   granted-account kind done =
@@ -239,11 +239,11 @@ module _ (s : Station) (sound : Sound s) (e : Record) (bearers : List ℕ) (room
   pub units-ticked : (i : ℕ) → e .kind ≡ 15 → wellFormed e ≡ true → stepOf s e bearers room .outcome .reply ≡ 0 → soonest e s ≡ At i → stepOf s e bearers room .station .used + getD (s .entries) i blank .units ≡ s .used
   units-ticked i kind formed done found =
       let late = tick-handles e kind formed s bearers room done .0 in
-      let back = tally-at (λ x. x .units) (s .entries) i blank (omega (arith, due-place s sound e i found, sound .places)) in
+      let back = total-at (λ x. x .units) (s .entries) i blank (omega (arith, due-place s sound e i found, sound .places)) in
       subst (λ (t : Station). t .used + getD (s .entries) i blank .units ≡ s .used) (sym (tick-one e kind formed s bearers room late i found .1)) (omega (arith, sound .sum))
 
   -- A reset takes back exactly the units of the held records of that neighbour.
-  pub units-reset : wellFormed e ≡ true → isReset (e .kind) ≡ true → stepOf s e bearers room .station .used + tally (heldUnits e) (s .entries) ≡ s .used
+  pub units-reset : wellFormed e ≡ true → isReset (e .kind) ≡ true → stepOf s e bearers room .station .used + total (heldUnits e) (s .entries) ≡ s .used
   units-reset formed kinds =
-      subst (λ (a : Answer). a .station .used + tally (heldUnits e) (s .entries) ≡ s .used) (sym (step-reset s e bearers room formed kinds))
+      subst (λ (a : Answer). a .station .used + total (heldUnits e) (s .entries) ≡ s .used) (sym (step-reset s e bearers room formed kinds))
       (omega (arith, reset-back s sound e kinds))

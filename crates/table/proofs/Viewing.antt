@@ -7,19 +7,21 @@ use mathlib.Core.List.{List, [], _∷_}
 use native.Mathlib.Omega.{arith}
 use lib.Dec.{eqb}
 use lib.ListN.{length, getD}
+use Rattle.laws.proofs.Sums.{total-equal}
+use Rattle.laws.specs.Sums.{total}
 use Rattle.laws.proofs.Tests.{by-cases}
 use Rattle.table.specs.declared.Entry.{Entry}
 use Rattle.table.specs.declared.Found.{Found}
 use Rattle.table.specs.declared.Station.{Station}
 use Rattle.table.specs.Numbers.{isFree, blank, own, ownIs, anyOf, nextAfter, issueFrom}
 use Rattle.table.specs.Sound.{Sound, ownTimes}
-use Rattle.table.specs.Table.{find, tally}
+use Rattle.table.specs.Table.{find}
 use Rattle.table.specs.Views.{count, times, ownIds, Walk, land, pass, recordAt, named}
 use Rattle.table.proofs.Counting.{own-equal}
 use Rattle.table.proofs.Finding.{by-found, found-here, found-none}
 use Rattle.table.proofs.Orderless.{once-at}
 use Rattle.table.proofs.Placing.{found-place}
-use Rattle.table.proofs.Tally.{tally-equal, tally-none, tally-any, none-at}
+use Rattle.table.proofs.Tally.{total-none-of, total-any, none-at}
 
 -- ---- own IDs
 
@@ -28,14 +30,14 @@ abbrev pub passes : (ℕ → Bool) → Entry → ℕ
 passes test r = cond (isFree r) 0 (cond (test (own r)) 1 0)
 
 -- The own IDs that pass a test are counted record by record.
-pub count-own : (test : ℕ → Bool) (rs : List Entry) → count test (ownIds rs) ≡ tally (passes test) rs
-unfolding count ownIds tally
+pub count-own : (test : ℕ → Bool) (rs : List Entry) → count test (ownIds rs) ≡ total (passes test) rs
+unfolding count ownIds total
 count-own test [] = refl
 count-own test (r ∷ rs) = by-cases (isFree r) (λ t. rw t (omega (arith, count-own test rs))) (λ t. rw t (omega (arith, count-own test rs)))
 
 -- There are as many own IDs as places that are not free.
-pub own-length : (rs : List Entry) → length (ownIds rs) + tally (λ r. cond (isFree r) 1 0) rs ≡ length rs
-unfolding ownIds tally
+pub own-length : (rs : List Entry) → length (ownIds rs) + total (λ r. cond (isFree r) 1 0) rs ≡ length rs
+unfolding ownIds total
 own-length [] = refl
 own-length (r ∷ rs) = by-cases (isFree r) (λ t. rw t (omega (arith, own-length rs))) (λ t. rw t (omega (arith, own-length rs)))
 
@@ -43,15 +45,15 @@ own-length (r ∷ rs) = by-cases (isFree r) (λ t. rw t (omega (arith, own-lengt
 own-passes : (i : ℕ) (r : Entry) → passes (eqb i) r ≡ ownTimes i r
 own-passes i r = rw (own-equal i r) (by-cases (isFree r) (λ t. rw t) (λ t. rw t))
 
-pub times-own : (i : ℕ) (rs : List Entry) → times i (ownIds rs) ≡ tally (ownTimes i) rs
-times-own i rs = count-own (eqb i) rs ∙ tally-equal (passes (eqb i)) (ownTimes i) rs (λ j _. own-passes i (getD rs j blank))
+pub times-own : (i : ℕ) (rs : List Entry) → times i (ownIds rs) ≡ total (ownTimes i) rs
+times-own i rs = count-own (eqb i) rs ∙ total-equal (passes (eqb i)) (ownTimes i) rs (own-passes i)
 
 -- It does not stand there if no record has it, and does if one has.
 unused-none : (i : ℕ) (rs : List Entry) → anyOf (ownIs i) rs ≡ false → times i (ownIds rs) ≡ 0
-unused-none i rs t = times-own i rs ∙ tally-none (ownTimes i) (ownIs i) rs (λ r u. rw u) t
+unused-none i rs t = times-own i rs ∙ total-none-of (ownTimes i) (ownIs i) rs (λ r u. rw u) t
 
 used-some : (i : ℕ) (rs : List Entry) → anyOf (ownIs i) rs ≡ true → 1 ≤ times i (ownIds rs)
-used-some i rs t = omega (arith, times-own i rs, tally-any (ownIs i) rs t)
+used-some i rs t = omega (arith, times-own i rs, total-any (ownIs i) rs t)
 
 -- The search that ends at an own ID in no use is the walk to it.
 pub walk-to : (n c : ℕ) (rs : List Entry) → anyOf (ownIs (issueFrom n (nextAfter c) rs)) rs ≡ false → Walk (ownIds rs) c (issueFrom n (nextAfter c) rs)

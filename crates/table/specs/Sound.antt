@@ -4,11 +4,11 @@ use mathlib.Core.Path.{_≡_}
 use mathlib.Core.Bool.{true, false, cond, _&&_}
 use lib.Dec.{leb, ltb, eqb}
 use lib.ListN.{length, getD}
+use Rattle.laws.specs.Sums.{total}
 use Rattle.bearers.specs.Sets.{within}
 use Rattle.table.specs.declared.Entry.{Entry}
 use Rattle.table.specs.declared.Station.{Station}
 use Rattle.table.specs.Numbers.{isFree, isOutgoing, isIncoming, isHeld, blank, own, ownIs}
-use Rattle.table.specs.Table.{tally}
 
 -- of one place of the table
 pub record Fit (r : Entry) : Type 0 where
@@ -36,10 +36,10 @@ pub record Sound (s : Station) : Type 0 where
   pub places : length (s .entries) ≡ 64
   pub fit : (i : ℕ) → i < 64 → Fit (getD (s .entries) i blank)
   -- own IDs are distinct, and among held records neighbour and Old ID are unique
-  pub distinct : (k : ℕ) → tally (ownTimes k) (s .entries) ≤ 1
-  pub unique : (n o : ℕ) → tally (heldTimes n o) (s .entries) ≤ 1
+  pub distinct : (k : ℕ) → total (ownTimes k) (s .entries) ≤ 1
+  pub unique : (n o : ℕ) → total (heldTimes n o) (s .entries) ≤ 1
   -- the units in use are the sum over the records, and at most the capacity
-  pub sum : s .used ≡ tally (λ r. r .units) (s .entries)
+  pub sum : s .used ≡ total (λ r. r .units) (s .entries)
   pub capacity : (s .used ≤ s .capacity) × (s .capacity ≤ 1000000000)
   pub clock : s .clock ≤ 1000000000000
   pub last : s .last < 4096

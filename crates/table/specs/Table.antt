@@ -5,6 +5,7 @@ use mathlib.Core.Bool.{Bool, cond, _&&_, _||_}
 use mathlib.Core.List.{List, [], _∷_, map}
 use lib.Dec.{leb, ltb, eqb}
 use lib.ListN.{length, getD, set}
+use Rattle.laws.specs.Sums.{total}
 use Rattle.records.specs.declared.Record.{Record}
 use Rattle.table.specs.declared.Best.{Best}
 use Rattle.table.specs.declared.Entry.{Entry}
@@ -91,11 +92,6 @@ pub record Puts (i : ℕ) (r : Entry) (s : Station) : Type 0 where
 abbrev pub add : ℕ → ℕ → Entry → Station → Station
 add i issued r s = holding (set (s .entries) i r) issued (s .used + r .units) s
 
--- a number for each record, added up
-unfoldable pub tally : (Entry → ℕ) → List Entry → ℕ
-tally f [] = 0
-tally f (r ∷ rs) = f r + tally f rs
-
 -- "all outgoing and held records of that neighbour end": what a reset makes of a record, and the units that it takes back
 abbrev pub leftOf : Record → Entry → Entry
 leftOf e r = cond (about e r) blank r
@@ -104,4 +100,4 @@ abbrev pub backOf : Record → Entry → ℕ
 backOf e r = cond (about e r) (r .units) 0
 
 abbrev pub reset : Record → Station → Station
-reset e s = holding (map (leftOf e) (s .entries)) (s .last) (s .used - tally (backOf e) (s .entries)) s
+reset e s = holding (map (leftOf e) (s .entries)) (s .last) (s .used - total (backOf e) (s .entries)) s

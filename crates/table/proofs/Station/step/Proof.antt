@@ -6,14 +6,13 @@ use mathlib.Core.Path.{_≡_, _∙_, sym}
 use Prim.Native.Nat.{_*_, _<_}
 use lib.Dec.{leb, eqb}
 use lib.Seq.{take-nil}
-use Rattle.laws.proofs.Tests.{by-cases}
+use Rattle.laws.proofs.Tests.{by-cases, neither}
 use Rattle.records.specs.declared.Record.{Record}
 use Rattle.table.specs.Fields.{wellFormed}
 use Rattle.table.specs.Sound.{Sound}
 use Rattle.table.specs.Step.{complete}
 use Rattle.table.proofs.Forms.{kind-small}
 use Rattle.table.proofs.Soundness.{sound}
-use Rattle.table.proofs.Tests.{neither}
 use borrow.Author.Needs.{needs}
 use Rattle.table.proofs.Station.step.Statement.{statement}
 use Rattle.table.proofs.Station.step.Tie as tie
