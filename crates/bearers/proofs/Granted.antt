@@ -8,7 +8,7 @@ use native.Mathlib.Omega.{arith}
 use lib.Bits.{or-zero-r}
 use lib.Dec.{leb, ltb, eqb}
 use Rattle.laws.specs.Sums.{total}
-use Rattle.laws.proofs.Tests.{by-cases, both-true}
+use Rattle.laws.proofs.Tests.{by-cases, both-true, refuted}
 use Rattle.bearers.specs.declared.Bearer.{Bearer}
 use Rattle.bearers.specs.declared.Grants.{Grants}
 use Rattle.bearers.specs.Admission.{those, occurs, hasTurn, turns, after, freeAt, verdict, admitted, idsOf}
@@ -114,7 +114,7 @@ module _ (gbr : ℕ → Bool) (bs : List Bearer) where
     pub those-repeated : (k : ℕ) → 1 < occurs k bs → occurs k (those test bs) ≡ 0
     those-repeated k h =
         occurs-those k test false bs
-        (λ b id. by-cases (test b) (λ t. absurd (true≢false (sym (turn b t) ∙ no-turn b (rw id h)))) (λ t. t))
+        (λ b id. refuted (test b) (λ t. true≢false (sym (turn b t) ∙ no-turn b (rw id h))))
 
     -- So no two of them have one ID.
     pub those-distinct : Distinct (those test bs)

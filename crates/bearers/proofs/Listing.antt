@@ -8,7 +8,7 @@ use native.Mathlib.Omega.{arith}
 use lib.Dec.{leb, eqb}
 use lib.ListN.{length, drop}
 use lib.Seq.{drop-drop}
-use Rattle.laws.proofs.Tests.{by-cases, both-true}
+use Rattle.laws.proofs.Tests.{by-cases, both-true, clash, refuted}
 use Rattle.records.specs.declared.Record.{Record}
 use Rattle.records.specs.Record.{recordAt}
 use Rattle.bearers.specs.declared.Bearer.{Bearer}
@@ -36,10 +36,10 @@ length-bearers (suc n) bytes = ap suc (length-bearers n (drop 32 bytes))
 
 -- A bearer's record is taken for what it says, and no other is.
 parsed-whole : (r : Record) (b : Bearer) → parsed r ≡ Whole b → (isBearer r ≡ true) × (bearerOf r ≡ b)
-parsed-whole r b e = by-cases (isBearer r) (λ t. (t, cc)) (λ t. let z : _≡_ {A = ℕ} 0 1 = cc in absurd (omega arith))
+parsed-whole r b e = by-cases (isBearer r) (λ t. (t, cc)) (λ t. clash cc)
 
 parsed-malformed : (r : Record) → parsed r ≡ Malformed → isBearer r ≡ false
-parsed-malformed r e = by-cases (isBearer r) (λ t. let z : _≡_ {A = ℕ} 0 1 = cc in absurd (omega arith)) (λ t. t)
+parsed-malformed r e = refuted (isBearer r) (λ t. clash cc)
 
 -- what a bearer's record settles: its ID and its priority are at most 15
 abbrev pub Formed : Bearer → Type 0

@@ -9,7 +9,7 @@ use native.Mathlib.Omega.{arith}
 use lib.Dec.{leb}
 use lib.ListN.{length, drop, length-drop}
 use lib.Seq.{drop-drop}
-use Rattle.laws.proofs.Tests.{same-leb, both-true}
+use Rattle.laws.proofs.Tests.{same-leb, both-true, clash}
 use Rattle.records.specs.Record.{recordAt, roomAt, readAt}
 use Rattle.records.specs.declared.Record.{Record}
 use Rattle.records.specs.declared.Read.the-variants.{Whole, Nothing}
@@ -45,11 +45,11 @@ stop rest (suc left) (inr none) = rw none
 -- What was read says that there was room, and which record it is.
 pub was-whole : (room : Bool) (there r : Record) → cond room (Whole there) Nothing ≡ Whole r → (room ≡ true) × (there ≡ r)
 was-whole true there r e = (refl, cc)
-was-whole false there r e = let never : _≡_ {A = ℕ} 0 1 = cc in absurd (omega arith)
+was-whole false there r e = clash cc
 
 -- Where nothing was read there was no room.
 pub was-short : (room : Bool) (there : Record) → cond room (Whole there) Nothing ≡ Nothing → room ≡ false
-was-short true there e = let never : _≡_ {A = ℕ} 0 1 = cc in absurd (omega arith)
+was-short true there e = clash cc
 was-short false there e = refl
 
 -- Where a record was read, the event is that record's.

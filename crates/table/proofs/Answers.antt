@@ -10,7 +10,7 @@ use native.Mathlib.Omega.{arith}
 use lib.Dec.{leb, eqb}
 use lib.ListN.{getD}
 use Rattle.laws.proofs.Sums.{total-at}
-use Rattle.laws.proofs.Tests.{by-cases, both-true}
+use Rattle.laws.proofs.Tests.{by-cases, both-true, clash}
 use Rattle.records.specs.declared.Record.{Record}
 use Rattle.table.specs.declared.Entry.{Entry}
 use Rattle.table.specs.declared.Found.the-variants.{At}
@@ -41,7 +41,7 @@ use Rattle.table.proofs.Viewing.{named-at, named-none, own-sole}
 prepared-means : (p n admitted : ℕ) (r : Entry) → outOf p r ≡ Prepared n admitted → (r .state ≡ 2) × (eqb (r .neighbour) p ≡ true) × (r .new .0 ≡ n)
 prepared-means p n admitted r prepared =
     by-cases (eqb (r .state) 1 && eqb (r .neighbour) p)
-    (λ t. let never : Preparing ≡ Prepared n admitted = rw t at prepared in let bad : _≡_ {A = ℕ} 0 1 = cc in absurd (omega arith))
+    (λ t. let never : Preparing ≡ Prepared n admitted = rw t at prepared in clash cc)
     (λ t. by-cases (eqb (r .state) 2 && eqb (r .neighbour) p)
     (λ u.
     let both = both-true (eqb (r .state) 2) (eqb (r .neighbour) p) u in

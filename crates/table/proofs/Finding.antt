@@ -9,7 +9,7 @@ use native.Mathlib.Omega.{arith}
 use lib.Dec.{eqb}
 use lib.ListN.{length, getD, set, drop, drop-of-length-le}
 use lib.Seq.{drop-cons, getD-set-same, getD-set-other}
-use Rattle.laws.proofs.Tests.{by-cases}
+use Rattle.laws.proofs.Tests.{by-cases, clash}
 use Rattle.records.specs.declared.Record.{Record}
 use Rattle.table.specs.declared.Best.{Best}
 use Rattle.table.specs.declared.Entry.{Entry}
@@ -67,7 +67,7 @@ module _ (s : Station) (places : length (s .entries) ≡ 64) (i : ℕ) where
 
 -- A place that is found is not none.
 pub at-nothing : (i : ℕ) → At i ≡ Nothing → ⊥
-at-nothing i e = let bad : _≡_ {A = ℕ} 0 1 = cc in omega arith
+at-nothing i e = clash cc
 
 -- A fact by what is found.
 pub by-found : {G : Type 0} (found : Found) → (found ≡ Nothing → G) → ((k : ℕ) → found ≡ At k → G) → G

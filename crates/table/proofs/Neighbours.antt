@@ -7,7 +7,7 @@ use borrow.Author.Tests.{eqb-true, eqb-false}
 use lib.Dec.{eqb}
 use lib.ListN.{getD, set}
 use lib.Seq.{getD-set-other}
-use Rattle.laws.proofs.Tests.{by-cases, both-true}
+use Rattle.laws.proofs.Tests.{by-cases, both-true, refuted}
 use Rattle.records.specs.declared.Record.{Record}
 use Rattle.table.specs.declared.Entry.{Entry}
 use Rattle.table.specs.declared.Found.{Found}
@@ -42,7 +42,7 @@ pub record OthersKept (n : ℕ) (s after : Station) : Type 0 where
 -- An event that concerns a neighbour is not about a record that is not that neighbour's.
 not-about : (e : Record) (r : Entry) → concernsNeighbour (e .kind) ≡ true → isOf (e .neighbour) r ≡ false → about e r ≡ false
 not-about e r concerns other =
-    by-cases (about e r) (λ t. absurd (true≢false (sym (about-of e r concerns t) ∙ other))) (λ t. t)
+    refuted (about e r) (λ t. true≢false (sym (about-of e r concerns t) ∙ other))
 
 module _ (s : Station) (e : Record) (concerns : concernsNeighbour (e .kind) ≡ true) where
   about-keeps : (found : Found) → find (about e) s ≡ found → OthersKept (e .neighbour) s (aboutOne e found s .station)

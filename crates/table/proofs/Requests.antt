@@ -3,9 +3,8 @@ use Prim.Native.Nat.{ℕ, _/_, _≤_}
 use mathlib.Core.Path.{_≡_, sym}
 use mathlib.Core.Bool.{true, false}
 use mathlib.Core.List.{List}
-use native.Mathlib.Omega.{arith}
 use lib.ListN.{length}
-use Rattle.laws.proofs.Tests.{by-cases, both-true}
+use Rattle.laws.proofs.Tests.{by-cases, both-true, clash, refuted}
 use Rattle.bearers.proofs.Admitted.{admitted-le}
 use Rattle.bearers.proofs.Judging.{each-formed}
 use Rattle.bearers.specs.Admission.{countable, judgeable, judgementOf, admissionOf, release8}
@@ -15,7 +14,7 @@ use Rattle.bearers.specs.declared.Judgement.the-variants.{Given, Malformed}
 
 -- What is given is not malformed.
 given-malformed : (a : Admission) → Given a ≡ Malformed → ⊥
-given-malformed a e = let bad : _≡_ {A = ℕ} 0 1 = cc in omega arith
+given-malformed a e = clash cc
 
 module _ (bytes : List ℕ) (free room : ℕ) where
   abbrev admitted : Admission
@@ -30,7 +29,7 @@ module _ (bytes : List ℕ) (free room : ℕ) where
 
   -- Those that were not cannot be.
   pub malformed : judgementOf bytes free room ≡ Malformed → judgeable bytes room ≡ false
-  malformed e = by-cases (judgeable bytes room) (λ t. absurd (given-malformed admitted (rw t at e))) (λ t. t)
+  malformed e = refuted (judgeable bytes room) (λ t. given-malformed admitted (rw t at e))
 
   -- The units admitted are free ones.
   pub units-free : judgeable bytes room ≡ true → admitted .units ≤ free

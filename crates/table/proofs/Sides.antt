@@ -10,7 +10,7 @@ use native.Mathlib.Omega.{arith}
 use lib.Dec.{leb, eqb}
 use lib.ListN.{getD}
 use Rattle.laws.proofs.Sums.{total-most}
-use Rattle.laws.proofs.Tests.{by-cases, both-true}
+use Rattle.laws.proofs.Tests.{by-cases, both-true, clash, refuted}
 use Rattle.records.specs.declared.Record.{Record}
 use Rattle.table.specs.declared.Answer.{Answer}
 use Rattle.table.specs.declared.Entry.{Entry}
@@ -114,7 +114,7 @@ module _ (p i : ℕ) (s : Station) (e : Record) (a : Answer) (x : Entry) (its : 
 -- A message of another kind than the four is of none of them.
 not-said : (m : Record) (k : ℕ) → isOther (m .kind) ≡ true → isOther k ≡ false → eqb (m .kind) k ≡ false
 not-said m k is four =
-    by-cases (eqb (m .kind) k) (λ t. absurd (true≢false (sym is ∙ rw (eqb-true (m .kind) k t) four))) (λ t. t)
+    refuted (eqb (m .kind) k) (λ t. true≢false (sym is ∙ rw (eqb-true (m .kind) k t) four))
 
 -- Neither a request nor an acknowledge is sent.
 pub nothing-new : {rs : List Entry} {e m : Record} {reply : ℕ} → Says rs e reply m → (eqb (m .kind) 1 ≡ false) × (eqb (m .kind) 2 ≡ false)
@@ -168,7 +168,7 @@ module _ (s : Station) (sound : Sound s) (e : Record) (a : Answer) (after : Soun
 
       at-old : Seen p (e .old .0) s e a → Source p s e a
       at-old (same there) =
-          keeps (record { silent = silent; each = λ i. each (λ _ before now. let bad : _≡_ {A = ℕ} 0 1 = cc in omega arith) i (seen-out p i) })
+          keeps (record { silent = silent; each = λ i. each (λ _ before now. clash cc) i (seen-out p i) })
       at-old (ready two neighbour _ before now) =
           readies (record { silent = silent; kind = two; neighbour = neighbour; before = before; after = now; others = λ j apart. others two j apart (seen-out p j) })
       at-old (gone kind _ _) = keeps (record { silent = silent; each = λ i. each (λ two _ _. kind two) i (seen-out p i) })

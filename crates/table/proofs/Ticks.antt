@@ -11,7 +11,7 @@ use lib.ListN.{length, getD, set}
 use lib.Seq.{getD-set-same, getD-set-other}
 use Rattle.laws.proofs.Sums.{total-le, total-set, total-each}
 use Rattle.laws.specs.Sums.{total}
-use Rattle.laws.proofs.Tests.{by-cases, both-true, neither}
+use Rattle.laws.proofs.Tests.{by-cases, both-true, neither, refuted}
 use Rattle.records.specs.declared.Record.{Record}
 use Rattle.table.specs.declared.Answer.{Answer}
 use Rattle.table.specs.declared.Best.{Best}
@@ -180,7 +180,7 @@ module _ (e : Record) (kind : e .kind ≡ 15) where
       ne-eqb (r .state) 0 (λ z. omega arith)
 
   none-due : due e blank ≡ false
-  none-due = by-cases (due e blank) (λ t. absurd (true≢false (busy-due blank t))) (λ t. t)
+  none-due = refuted (due e blank) (λ t. true≢false (busy-due blank t))
 
   -- Where a tick finds a record, it is due, and no due record has a lesser deadline, or the same deadline and a lesser own ID.
   pub soonest-due : (s : Station) (i : ℕ) → soonest e s ≡ At i
@@ -245,9 +245,7 @@ module _ (e : Record) (kind : e .kind ≡ 15) where
     -- A tick with another reply than 8 is at a time not before the clock.
     in-time : (s : Station) (bearers : List ℕ) (room : ℕ) → (stepOf s e bearers room .outcome .reply ≡ 8 → ⊥) → ltb (e .time) (s .clock) ≡ false
     in-time s bearers room other =
-        by-cases (ltb (e .time) (s .clock))
-        (λ t. absurd (other (ap (λ (a : Answer). a .outcome .reply) (early-step s e bearers room formed kind t))))
-        (λ t. t)
+        refuted (ltb (e .time) (s .clock)) (λ t. other (ap (λ (a : Answer). a .outcome .reply) (early-step s e bearers room formed kind t)))
 
     -- One with reply 0 finds a record besides.
     pub tick-handles : (s : Station) (bearers : List ℕ) (room : ℕ) → stepOf s e bearers room .outcome .reply ≡ 0 → (ltb (e .time) (s .clock) ≡ false) × (i : ℕ) × (soonest e s ≡ At i)

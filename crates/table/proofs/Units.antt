@@ -9,7 +9,7 @@ use lib.Dec.{leb, eqb}
 use lib.ListN.{getD}
 use Rattle.laws.proofs.Sums.{total-at, total-le, total-throughout}
 use Rattle.laws.specs.Sums.{total}
-use Rattle.laws.proofs.Tests.{by-cases, both-true, neither, on-either, same-at}
+use Rattle.laws.proofs.Tests.{by-cases, both-true, neither, on-either, same-at, refuted}
 use Rattle.records.specs.declared.Record.{Record}
 use Rattle.table.specs.declared.Answer.{Answer}
 use Rattle.table.specs.declared.Entry.{Entry}
@@ -160,7 +160,7 @@ module _ (s : Station) (sound : Sound s) (e : Record) (bearers : List ℕ) where
   part-accounts (as-event i _ single found) =
       carried-accounts i (s .clock + s .overall) (s .clock) (found-place s sound (about e) i found) (single .request)
       (λ gone.
-      let ends : keeps (e .kind) ≡ false = by-cases (keeps (e .kind)) (λ t. absurd (true≢false (sym (keeps-leaves (e .kind) (getD (s .entries) i blank .state) t) ∙ gone))) (λ t. t) in
+      let ends : keeps (e .kind) ≡ false = refuted (keeps (e .kind)) (λ t. true≢false (sym (keeps-leaves (e .kind) (getD (s .entries) i blank .state) t) ∙ gone)) in
       rw (single .request, single .response, single .start, ends, single .tick, single .reset) (ap (λ (f : Found). unitsAt f s) found))
 
   -- So a step changes the units in use by what it gives out and takes back, and by nothing else.
