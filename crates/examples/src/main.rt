@@ -5,7 +5,7 @@ use lines::Run;
 use text::compose::Draft;
 ghost use mathlib.Core.Path.{_≡_};
 ghost use Rattle.io.specs.Counts.{Counts};
-ghost use Rattle.examples.specs.Same.{same as sameAs};
+ghost use Rattle.text.specs.Words.{isSame};
 
 // Reads a file, as far as the buffer holds it, and answers how many bytes there are.
 fn read_file(path: &[u8], buffer: &mut [u8]) -> usize
@@ -22,7 +22,7 @@ fn read_file(path: &[u8], buffer: &mut [u8]) -> usize
 
 // Whether two texts are the same.
 fn same(a: &[u8], b: &[u8]) -> bool
-    ensures { λ r. ⌜ r ≡ sameAs (now (a .entry)) (now (b .entry)) ⌝ }
+    ensures { λ r. ⌜ r ≡ isSame (now (a .entry)) (now (b .entry)) ⌝ }
 {
     if a.len() != b.len() {
         return false;

@@ -7,7 +7,7 @@ use native.Mathlib.Omega.{arith}
 use borrow.Author.Tests.{le-leb, eqb-true}
 use lib.Dec.{leb, eqb}
 use lib.ListN.{length, getD, take, drop}
-use Rattle.laws.proofs.Tests.{both-true, by-cases, on-false}
+use Rattle.laws.proofs.Tests.{both-true, refuted, on-false}
 use Rattle.records.specs.Record.{bytesOf, writtenAt, InRange}
 use Rattle.records.specs.declared.Record.{Record}
 use Rattle.text.specs.declared.compose.Word.{Word}
@@ -56,12 +56,11 @@ four false b c d e t = absurd (false≢true t)
 -- No count is put in where the first record has one, or is the only one.
 not-lacking : (d : Draft) (out line : List ℕ) → Holds (d .staged) out line → (64 ≤ d .staged → 1 ≤ countOf line) → lacksCount d out ≡ false
 not-lacking d out line h some =
-    by-cases (lacksCount d out)
+    refuted (lacksCount d out)
     (λ t.
     let long : 64 ≤ d .staged = lacks d out t .1 in
     let zero = four (eqb (d .mode) 1 && leb 64 (d .staged) && eqb (getD out 0 0) 1) (eqb (getD out 12 0) 0) (eqb (getD out 13 0) 0) (eqb (getD out 14 0) 0) (eqb (getD out 15 0) 0) (both-true (leb 64 (length out)) _ t .1) in
-    absurd
-    (omega (
+    omega (
       arith,
       some long,
       eqb-true (getD out 12 0) 0 (zero .0),
@@ -72,8 +71,7 @@ not-lacking d out line h some =
       holds-at h 13 (omega arith),
       holds-at h 14 (omega arith),
       holds-at h 15 (omega arith),
-    )))
-    (λ t. t)
+    ))
 
 -- A record by its words is written behind those before it.
 pub written : (r : Record) → InRange r → (s f : ℕ) (w : Word) (out before : List ℕ) → Holds s out before → s + 32 ≤ 8224

@@ -42,7 +42,9 @@ next-line-requires : tie.Need-next-line-requires Inv-loop μ-loop
 next-line-requires c κs = tt
 
 add-taken : tie.Need-add-taken Inv-loop μ-loop
-add-taken c = omega (arith, onward (c .before .before .before .before .before .before .before .before .before .before .before .before .before .before .before .args .bytes .now) (c .before .before .before .before .before .before .before .before .before .before .before .before .loop .taken) _ (c .before .before .before .before .before .before .before .before .before .before .before .before .loop .now .more) _ (c .before .before .before .before .before .before .before .before .before .before .if1 .taken) (c .before .before .before .before .before .before .before .before .before .before .before .before .loop .inv .2) (c .before .before .before .before .before .before .read .ensures .1) .1, c .before .before .before .before .before .before .before .before .before .before .before .before .before .before .before .good)
+add-taken c =
+    let now = c .before .before .before .before .before .before .before .before .before .before .before .before .loop in
+    omega (arith, onward (c .before .before .before .before .before .before .before .before .before .before .before .before .before .before .before .args .bytes .now) (now .taken) _ (now .now .more) _ (c .before .before .before .before .before .before .before .before .before .before .if1 .taken) (now .inv .2) (c .before .before .before .before .before .before .read .ensures .1) .1, c .before .before .before .before .before .before .before .before .before .before .before .before .before .before .before .good)
 
 loop-less : tie.Need-loop-less Inv-loop μ-loop
 loop-less c =
@@ -50,7 +52,9 @@ loop-less c =
     omega (arith, on .0, on .1)
 
 loop-again : tie.Need-loop-again Inv-loop μ-loop
-loop-again c = (onward (c .before .before .before .before .before .before .before .before .before .before .before .before .before .before .before .args .bytes .now) (c .before .before .before .before .before .before .before .before .before .before .before .before .loop .taken) _ (c .before .before .before .before .before .before .before .before .before .before .before .before .loop .now .more) _ (c .before .before .before .before .before .before .before .before .before .before .if1 .taken) (c .before .before .before .before .before .before .before .before .before .before .before .before .loop .inv .2) (c .before .before .before .before .before .before .read .ensures .1) .1, c .before .before .before .before .before .before .read .kept .1 .1 .0 ∙ c .before .before .before .before .before .before .before .before .before .before .before .before .loop .inv .1, c .before .next-line .ensures)
+loop-again c =
+    let now = c .before .before .before .before .before .before .before .before .before .before .before .before .loop in
+    (onward (c .before .before .before .before .before .before .before .before .before .before .before .before .before .before .before .args .bytes .now) (now .taken) _ (now .now .more) _ (c .before .before .before .before .before .before .before .before .before .before .if1 .taken) (now .inv .2) (c .before .before .before .before .before .before .read .ensures .1) .1, c .before .before .before .before .before .before .read .kept .1 .1 .0 ∙ now .inv .1, c .before .next-line .ensures)
 
 same-length : tie.Need-same-length Inv-loop μ-loop
 same-length c = c .before .before .loop .inv .1

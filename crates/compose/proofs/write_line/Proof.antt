@@ -10,7 +10,9 @@ use Rattle.compose.proofs.write_line.Statement.{statement}
 use Rattle.compose.proofs.write_line.Tie as tie
 
 slice-aggregate-write-all : tie.Need-slice-aggregate-write-all
-slice-aggregate-write-all c = sym (length-take-le (c .before .before .before .before .args .d .staged) (c .before .before .before .before .args .output .now) (leb-true (c .before .before .before .before .args .d .staged) (length (c .before .before .before .before .args .output .now)) (both-true (ltb (c .before .before .before .before .args .d .mode) 4) (leb (c .before .before .before .before .args .d .staged) (length (c .before .before .before .before .args .output .now))) (c .before .if1 .taken) .1)))
+slice-aggregate-write-all c =
+    let start = c .before .before .before .before .args in
+    sym (length-take-le (start .d .staged) (start .output .now) (leb-true (start .d .staged) (length (start .output .now)) (both-true (ltb (start .d .mode) 4) (leb (start .d .staged) (length (start .output .now))) (c .before .if1 .taken) .1)))
 
 write-all-requires : tie.Need-write-all-requires
 write-all-requires c κs = search needs

@@ -1,20 +1,19 @@
 -- What is left of both is the same exactly where the whole is.
-use Prim.Native.Nat.{ℕ, suc, _+_, _-_, _≤_, _<_}
+use Prim.Native.Nat.{ℕ, suc, _-_}
 use mathlib.Core.Path.{_≡_, refl, sym, ap, _∙_}
 use mathlib.Core.Bool.{Bool, true, false, _&&_}
 use mathlib.Core.List.{List, [], _∷_}
 use borrow.Author.Tests.{eq-eqb, ne-eqb}
-use native.Mathlib.Numerals.{add-one}
 use native.Mathlib.Omega.{arith}
 use lib.Dec.{eqb}
-use lib.ListN.{length, getD, drop, drop-of-length-le}
-use lib.Seq.{drop-cons}
-use Rattle.examples.specs.Same.{same}
+use lib.ListN.{length, drop}
+use Rattle.text.proofs.Comparing.{same-next, same-end}
+use Rattle.text.specs.Words.{isSame}
 use Rattle.examples.proofs.same.Statement.{statement}
 use Rattle.examples.proofs.same.Tie as tie
 
 abbrev Inv-loop : tie.InvT-loop
-Inv-loop a b i₀ end i = (length a ≡ length b) × (same (drop i a) (drop i b) ≡ same a b)
+Inv-loop a b i₀ end i = (length a ≡ length b) × (isSame (drop i a) (drop i b) ≡ isSame a b)
 
 abbrev μ-loop : tie.MeasureT-loop
 μ-loop a b i₀ end i = end - i
@@ -24,24 +23,17 @@ no-more true = refl
 no-more false = refl
 
 -- texts of different lengths differ
-different : (a b : List ℕ) → (length a ≡ length b → ⊥) → false ≡ same a b
-unfolding same
+different : (a b : List ℕ) → (length a ≡ length b → ⊥) → false ≡ isSame a b
+unfolding isSame
 different [] [] h = absurd (h refl)
 different [] (y ∷ ys) h = refl
 different (x ∷ xs) [] h = refl
 different (x ∷ xs) (y ∷ ys) h = rw (sym (different xs ys (λ e. h (ap suc e)))) (sym (no-more (eqb x y)))
 
--- one byte more
-one : (a b : List ℕ) (i : ℕ) → i < length a → length a ≡ length b → same (drop i a) (drop i b) ≡ (eqb (getD a i 0) (getD b i 0) && same (drop (i + 1) a) (drop (i + 1) b))
-unfolding same
-one a b i h e = rw (drop-cons a i 0 h, drop-cons b i 0 (omega (arith, h, e)), add-one i)
-
-none : (a b : List ℕ) (i : ℕ) → length a ≤ i → length a ≡ length b → same (drop i a) (drop i b) ≡ true
-unfolding same
-none a b i h e = rw (drop-of-length-le a {i = i} h, drop-of-length-le b {i = i} (omega (arith, h, e)))
-
 returns : tie.Need-returns Inv-loop μ-loop
-returns c = different (c .before .args .a .now) (c .before .args .b .now) (c .if1 .taken)
+returns c =
+    let start = c .before .args in
+    different (start .a .now) (start .b .now) (c .if1 .taken)
 
 loop-holds : tie.Need-loop-holds Inv-loop μ-loop
 loop-holds c = (c .if1 .left, refl)
@@ -56,7 +48,7 @@ returns-2 : tie.Need-returns-2 Inv-loop μ-loop
 returns-2 c =
     let start = c .before .before .before .before .before .before .args in
     let now = c .before .before .before .before .loop in
-    sym (sym (now .inv .1) ∙ one (start .a .now) (start .b .now) (now .i) (c .before .before .before .loop-test .taken) (now .inv .0) ∙ rw (ne-eqb _ _ (c .if2 .taken)))
+    sym (sym (now .inv .1) ∙ same-next (start .a .now) (start .b .now) (now .i) (c .before .before .before .loop-test .taken) (omega (arith, c .before .before .before .loop-test .taken, now .inv .0)) ∙ rw (ne-eqb _ _ (c .if2 .taken)))
 
 add-i : tie.Need-add-i Inv-loop μ-loop
 add-i c = omega (arith, c .before .before .before .loop-test .taken, c .before .before .before .before .before .before .good)
@@ -68,13 +60,13 @@ loop-again : tie.Need-loop-again Inv-loop μ-loop
 loop-again c =
     let start = c .before .before .before .before .before .before .args in
     let now = c .before .before .before .before .loop in
-    (now .inv .0, rw (eq-eqb _ _ (c .if2 .left)) at (sym (one (start .a .now) (start .b .now) (now .i) (c .before .before .before .loop-test .taken) (now .inv .0))) ∙ now .inv .1)
+    (now .inv .0, rw (eq-eqb _ _ (c .if2 .left)) at (sym (same-next (start .a .now) (start .b .now) (now .i) (c .before .before .before .loop-test .taken) (omega (arith, c .before .before .before .loop-test .taken, now .inv .0)))) ∙ now .inv .1)
 
 returns-3 : tie.Need-returns-3 Inv-loop μ-loop
 returns-3 c =
     let start = c .before .before .before .args in
     let now = c .before .loop in
-    sym (none (start .a .now) (start .b .now) (now .i) (omega (arith, c .loop-test .left)) (now .inv .0)) ∙ now .inv .1
+    sym (same-end (start .a .now) (start .b .now) (now .i) (omega (arith, c .loop-test .left)) (omega (arith, c .loop-test .left, now .inv .0))) ∙ now .inv .1
 
 pub same-spec : {M : Type 1} → statement M
 same-spec =

@@ -100,7 +100,9 @@ same-length-2 : tie.Need-same-length-2 Inv-loop μ-loop
 same-length-2 c = c .before .loop .inv .2
 
 returns-2 : tie.Need-returns-2 Inv-loop μ-loop
-returns-2 c = (c .before .loop .inv .0, sym (length-take-le _ _ (c .before .loop .inv .0)))
+returns-2 c =
+    let now = c .before .loop in
+    (now .inv .0, sym (length-take-le _ _ (now .inv .0)))
 
 pub write-records-spec : {M : Type 1} → statement M
 write-records-spec =

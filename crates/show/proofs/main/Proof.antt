@@ -33,13 +33,19 @@ turn-requires : tie.Need-turn-requires Inv-loop μ-loop
 turn-requires c κs = tt
 
 sub-turns : tie.Need-sub-turns Inv-loop μ-loop
-sub-turns c = ltb-true 0 (c .before .before .before .before .before .before .before .loop .turns) (both-true (c .before .before .before .before .before .before .before .loop .s .more) (ltb 0 (c .before .before .before .before .before .before .before .loop .turns)) (c .before .before .before .before .before .if1 .taken) .1)
+sub-turns c =
+    let now = c .before .before .before .before .before .before .before .loop in
+    ltb-true 0 (now .turns) (both-true (now .s .more) (ltb 0 (now .turns)) (c .before .before .before .before .before .if1 .taken) .1)
 
 loop-less : tie.Need-loop-less Inv-loop μ-loop
-loop-less c = omega (arith, ltb-true 0 (c .before .before .before .before .before .before .before .loop .turns) (both-true (c .before .before .before .before .before .before .before .loop .s .more) (ltb 0 (c .before .before .before .before .before .before .before .loop .turns)) (c .before .before .before .before .before .if1 .taken) .1))
+loop-less c =
+    let now = c .before .before .before .before .before .before .before .loop in
+    omega (arith, ltb-true 0 (now .turns) (both-true (now .s .more) (ltb 0 (now .turns)) (c .before .before .before .before .before .if1 .taken) .1))
 
 loop-again : tie.Need-loop-again Inv-loop μ-loop
-loop-again c = (c .before .before .turn .kept .1 .0 ∙ c .before .before .before .before .before .before .before .loop .inv .0, c .before .before .turn .kept .1 .1 .0 ∙ c .before .before .before .before .before .before .before .loop .inv .1)
+loop-again c =
+    let now = c .before .before .before .before .before .before .before .loop in
+    (c .before .before .turn .kept .1 .0 ∙ now .inv .0, c .before .before .turn .kept .1 .1 .0 ∙ now .inv .1)
 
 returns : tie.Need-returns Inv-loop μ-loop
 returns c = tt

@@ -34,16 +34,24 @@ write-text-requires : tie.Need-write-text-requires Inv-loop μ-loop
 write-text-requires c κs = tt
 
 sub-left : tie.Need-sub-left Inv-loop μ-loop
-sub-left c = omega (arith, leb-true 32 (c .before .before .before .before .before .before .before .before .before .loop .left) (both-true (c .before .before .before .before .before .before .before .before .before .loop .more) (leb 32 (c .before .before .before .before .before .before .before .before .before .loop .left)) (c .before .before .before .before .before .before .before .before .loop-test .taken) .1))
+sub-left c =
+    let now = c .before .before .before .before .before .before .before .before .before .loop in
+    omega (arith, leb-true 32 (now .left) (both-true (now .more) (leb 32 (now .left)) (c .before .before .before .before .before .before .before .before .loop-test .taken) .1))
 
 add-taken : tie.Need-add-taken Inv-loop μ-loop
-add-taken c = omega (arith, leb-true 32 (c .before .before .before .before .before .before .before .before .before .loop .left) (both-true (c .before .before .before .before .before .before .before .before .before .loop .more) (leb 32 (c .before .before .before .before .before .before .before .before .before .loop .left)) (c .before .before .before .before .before .before .before .before .loop-test .taken) .1), c .before .before .before .before .before .before .before .before .before .loop .inv .0, c .before .before .before .before .before .before .before .before .before .before .before .before .before .good)
+add-taken c =
+    let now = c .before .before .before .before .before .before .before .before .before .loop in
+    omega (arith, leb-true 32 (now .left) (both-true (now .more) (leb 32 (now .left)) (c .before .before .before .before .before .before .before .before .loop-test .taken) .1), now .inv .0, c .before .before .before .before .before .before .before .before .before .before .before .before .before .good)
 
 loop-less : tie.Need-loop-less Inv-loop μ-loop
-loop-less c = omega (arith, leb-true 32 (c .before .before .before .before .before .before .before .before .before .loop .left) (both-true (c .before .before .before .before .before .before .before .before .before .loop .more) (leb 32 (c .before .before .before .before .before .before .before .before .before .loop .left)) (c .before .before .before .before .before .before .before .before .loop-test .taken) .1))
+loop-less c =
+    let now = c .before .before .before .before .before .before .before .before .before .loop in
+    omega (arith, leb-true 32 (now .left) (both-true (now .more) (leb 32 (now .left)) (c .before .before .before .before .before .before .before .before .loop-test .taken) .1))
 
 loop-again : tie.Need-loop-again Inv-loop μ-loop
-loop-again c = (omega (arith, leb-true 32 (c .before .before .before .before .before .before .before .before .before .loop .left) (both-true (c .before .before .before .before .before .before .before .before .before .loop .more) (leb 32 (c .before .before .before .before .before .before .before .before .before .loop .left)) (c .before .before .before .before .before .before .before .before .loop-test .taken) .1), c .before .before .before .before .before .before .before .before .before .loop .inv .0), c .before .before .before .before .before .show .kept .1 .1 .0 ∙ c .before .before .before .before .before .before .before .before .before .loop .inv .1)
+loop-again c =
+    let now = c .before .before .before .before .before .before .before .before .before .loop in
+    (omega (arith, leb-true 32 (now .left) (both-true (now .more) (leb 32 (now .left)) (c .before .before .before .before .before .before .before .before .loop-test .taken) .1), now .inv .0), c .before .before .before .before .before .show .kept .1 .1 .0 ∙ now .inv .1)
 
 same-length : tie.Need-same-length Inv-loop μ-loop
 same-length c = c .before .loop .inv .1

@@ -1,3 +1,4 @@
+-- A set takes the number as an ID, any other field the number itself.
 use mathlib.Core.Path.{sym, _∙_}
 use borrow.Author.Needs.{needs}
 use Rattle.text.proofs.compose.added.Statement.{statement}

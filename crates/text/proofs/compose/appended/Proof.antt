@@ -1,3 +1,4 @@
+-- The word is empty again, and one byte more is staged.
 use borrow.Author.Needs.{needs}
 use Rattle.text.proofs.compose.appended.Statement.{statement}
 use Rattle.text.proofs.compose.appended.Tie as tie

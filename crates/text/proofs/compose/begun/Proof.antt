@@ -1,3 +1,4 @@
+-- A line that is too long stays so; else the record is blank, of its kind.
 use borrow.Author.Tests.{eq-eqb, ne-eqb}
 use Rattle.text.specs.Composed.{begun}
 use borrow.Author.Needs.{needs}

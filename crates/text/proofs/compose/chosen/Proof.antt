@@ -1,3 +1,4 @@
+-- A field is named only where a record is being filled.
 use Rattle.text.specs.Composed.{chosen}
 use borrow.Author.Tests.{eq-eqb, ne-eqb}
 use borrow.Author.Needs.{needs}

@@ -1,3 +1,4 @@
+-- A line that is over stays as it is; else its last word and its last record end, and its count is put in.
 use Rattle.text.specs.Composed.{made}
 use Rattle.text.proofs.Machine.{close-over, close-on}
 use borrow.Author.Needs.{needs}
@@ -5,7 +6,9 @@ use Rattle.text.proofs.compose.close.Statement.{statement}
 use Rattle.text.proofs.compose.close.Tie as tie
 
 returns : tie.Need-returns
-returns c = close-over (made (c .before .before .before .args .d) (c .before .before .before .args .out .now)) (c .if1 .taken)
+returns c =
+    let start = c .before .before .before .args in
+    close-over (made (start .d) (start .out .now)) (c .if1 .taken)
 
 settle-requires : tie.Need-settle-requires
 settle-requires c κs = search needs
@@ -20,7 +23,9 @@ same-length : tie.Need-same-length
 same-length c = search needs
 
 returns-2 : tie.Need-returns-2
-returns-2 c = close-on (made (c .before .before .before .before .before .before .before .before .before .before .before .before .before .before .before .args .d) (c .before .before .before .before .before .before .before .before .before .before .before .before .before .before .before .args .out .now)) _ _ _ (c .before .before .before .before .before .before .before .before .before .before .before .before .if1 .left) (c .before .before .before .before .before .before .before .before .before .before .settle .ensures) (c .before .before .before .before .before .before .stage .ensures) (c .before .before .counted .ensures)
+returns-2 c =
+    let start = c .before .before .before .before .before .before .before .before .before .before .before .before .before .before .before .args in
+    close-on (made (start .d) (start .out .now)) _ _ _ (c .before .before .before .before .before .before .before .before .before .before .before .before .if1 .left) (c .before .before .before .before .before .before .before .before .before .before .settle .ensures) (c .before .before .before .before .before .before .stage .ensures) (c .before .before .counted .ensures)
 
 pub close-spec : {M : Type 1} → statement M
 close-spec =

@@ -1,3 +1,4 @@
+-- What is over stays over; else a comment begins.
 use borrow.Author.Tests.{le-leb, lt-leb}
 use Rattle.text.proofs.compose.commented.Statement.{statement}
 use Rattle.text.proofs.compose.commented.Tie as tie

@@ -1,3 +1,4 @@
+-- Where a request lacks its count the buffer has room for it.
 use mathlib.Core.Path.{sym, _∙_}
 use native.Mathlib.Omega.{arith}
 use lib.ListN.{length-set}
@@ -19,19 +20,25 @@ unfolding counted
 returns c = rw (sym (c .before .lacks-count .ensures) ∙ not-true _ (c .if1 .taken))
 
 sub-following : tie.Need-sub-following
-sub-following c = omega (arith, lacks (c .before .before .before .before .before .args .d) (c .before .before .before .before .before .args .out .now) (sym (c .before .before .lacks-count .ensures) ∙ not-false _ (c .before .if1 .left)))
+sub-following c =
+    let start = c .before .before .before .before .before .args in
+    omega (arith, lacks (start .d) (start .out .now) (sym (c .before .before .lacks-count .ensures) ∙ not-false _ (c .before .if1 .left)))
 
 cast-out : tie.Need-cast-out
 cast-out c = search needs
 
 slice-write-out : tie.Need-slice-write-out
-slice-write-out c = omega (arith, lacks (c .before .before .before .before .before .args .d) (c .before .before .before .before .before .args .out .now) (sym (c .before .before .lacks-count .ensures) ∙ not-false _ (c .before .if1 .left)))
+slice-write-out c =
+    let start = c .before .before .before .before .before .args in
+    omega (arith, lacks (start .d) (start .out .now) (sym (c .before .before .lacks-count .ensures) ∙ not-false _ (c .before .if1 .left)))
 
 cast-out-2 : tie.Need-cast-out-2
 cast-out-2 c = search needs
 
 slice-write-out-2 : tie.Need-slice-write-out-2
-slice-write-out-2 c = simp length-set (omega (arith, lacks (c .before .before .before .before .before .args .d) (c .before .before .before .before .before .args .out .now) (sym (c .before .before .lacks-count .ensures) ∙ not-false _ (c .before .if1 .left))))
+slice-write-out-2 c =
+    let start = c .before .before .before .before .before .args in
+    simp length-set (omega (arith, lacks (start .d) (start .out .now) (sym (c .before .before .lacks-count .ensures) ∙ not-false _ (c .before .if1 .left))))
 
 same-length-2 : tie.Need-same-length-2
 same-length-2 c = search needs

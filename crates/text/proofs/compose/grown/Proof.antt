@@ -1,3 +1,4 @@
+-- A digit is taken only where the number has room for it.
 use mathlib.Core.Path.{sym, _∙_}
 use native.Mathlib.Omega.{arith}
 use Rattle.text.proofs.Digits.{taken-fits}
@@ -9,13 +10,19 @@ takes-digit-requires : tie.Need-takes-digit-requires
 takes-digit-requires c κs = search needs
 
 mul-result : tie.Need-mul-result
-mul-result c = omega (arith, taken-fits (c .before .before .args .value) (c .before .before .args .byte) (sym (c .before .takes-digit .ensures) ∙ c .if1 .taken))
+mul-result c =
+    let start = c .before .before .args in
+    omega (arith, taken-fits (start .value) (start .byte) (sym (c .before .takes-digit .ensures) ∙ c .if1 .taken))
 
 sub-result : tie.Need-sub-result
-sub-result c = omega (arith, taken-fits (c .before .before .args .value) (c .before .before .args .byte) (sym (c .before .takes-digit .ensures) ∙ c .if1 .taken))
+sub-result c =
+    let start = c .before .before .args in
+    omega (arith, taken-fits (start .value) (start .byte) (sym (c .before .takes-digit .ensures) ∙ c .if1 .taken))
 
 add-result : tie.Need-add-result
-add-result c = omega (arith, taken-fits (c .before .before .args .value) (c .before .before .args .byte) (sym (c .before .takes-digit .ensures) ∙ c .if1 .taken))
+add-result c =
+    let start = c .before .before .args in
+    omega (arith, taken-fits (start .value) (start .byte) (sym (c .before .takes-digit .ensures) ∙ c .if1 .taken))
 
 returns : tie.Need-returns
 returns c = rw (sym (c .before .takes-digit .ensures) ∙ c .if1 .taken)

@@ -1,3 +1,4 @@
+-- The three ends of a pair of digits: no pair, no room, a byte.
 use Rattle.text.specs.Composed.{made}
 use Rattle.text.proofs.Machine.{hex-wrong, hex-long, hex-on}
 use borrow.Author.Needs.{needs}
@@ -11,13 +12,17 @@ wrong-requires : tie.Need-wrong-requires
 wrong-requires c κs = search needs
 
 returns : tie.Need-returns
-returns c = hex-wrong (made (c .before .before .before .before .before .args .d) (c .before .before .before .before .before .args .out .now)) _ _ (c .before .before .hex-value .ensures) (c .before .if1 .taken) (c .wrong .ensures)
+returns c =
+    let start = c .before .before .before .before .before .args in
+    hex-wrong (made (start .d) (start .out .now)) _ _ (c .before .before .hex-value .ensures) (c .before .if1 .taken) (c .wrong .ensures)
 
 too-long-requires : tie.Need-too-long-requires
 too-long-requires c κs = search needs
 
 returns-2 : tie.Need-returns-2
-returns-2 c = hex-long (made (c .before .before .before .before .before .before .args .d) (c .before .before .before .before .before .before .args .out .now)) _ _ (c .before .before .before .hex-value .ensures) (c .before .before .if1 .left) (c .before .if2 .taken) (c .too-long .ensures)
+returns-2 c =
+    let start = c .before .before .before .before .before .before .args in
+    hex-long (made (start .d) (start .out .now)) _ _ (c .before .before .before .hex-value .ensures) (c .before .before .if1 .left) (c .before .if2 .taken) (c .too-long .ensures)
 
 cast-out : tie.Need-cast-out
 cast-out c = search needs
@@ -32,7 +37,9 @@ same-length : tie.Need-same-length
 same-length c = search needs
 
 returns-3 : tie.Need-returns-3
-returns-3 c = hex-on (made (c .before .before .before .before .before .before .args .d) (c .before .before .before .before .before .before .args .out .now)) _ _ (c .before .before .before .hex-value .ensures) (c .before .before .if1 .left) (c .before .if2 .left) (c .appended .ensures)
+returns-3 c =
+    let start = c .before .before .before .before .before .before .args in
+    hex-on (made (start .d) (start .out .now)) _ _ (c .before .before .before .hex-value .ensures) (c .before .before .if1 .left) (c .before .if2 .left) (c .appended .ensures)
 
 pub hex-spec : {M : Type 1} → statement M
 hex-spec =

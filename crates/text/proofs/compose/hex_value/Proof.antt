@@ -1,3 +1,4 @@
+-- Both digits are looked at, then the pair.
 use mathlib.Core.Path.{sym}
 use Rattle.text.specs.Composed.{hexValue}
 use borrow.Author.Needs.{needs}

@@ -1,3 +1,4 @@
+-- A buffer of less than two records lacks none.
 use borrow.Author.Tests.{le-leb, lt-leb}
 use lib.ListN.{length}
 use borrow.Author.Needs.{needs}

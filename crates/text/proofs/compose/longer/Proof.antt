@@ -1,3 +1,4 @@
+-- The size stops at 17.
 use borrow.Author.Tests.{le-leb, lt-leb}
 use borrow.Author.Needs.{needs}
 use Rattle.text.proofs.compose.longer.Statement.{statement}

@@ -1,3 +1,4 @@
+-- The test is the definition's, with its last part as a function.
 use borrow.Author.Needs.{needs}
 use Rattle.text.proofs.compose.may_begin.Statement.{statement}
 use Rattle.text.proofs.compose.may_begin.Tie as tie

@@ -1,3 +1,4 @@
+-- A set goes on taking numbers, any other field takes none.
 use mathlib.Core.Path.{sym, _∙_}
 use borrow.Author.Needs.{needs}
 use Rattle.text.proofs.compose.next_field.Statement.{statement}

@@ -1,3 +1,4 @@
+-- A digit is in one of three ranges, or in none.
 use Rattle.text.specs.Composed.{nibble}
 use native.Mathlib.Omega.{arith}
 use Rattle.text.proofs.Digits.{between}

@@ -1,3 +1,4 @@
+-- The four fields of the word, each by its function.
 use borrow.Author.Needs.{needs}
 use Rattle.text.proofs.compose.push.Statement.{statement}
 use Rattle.text.proofs.compose.push.Tie as tie

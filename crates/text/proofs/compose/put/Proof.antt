@@ -1,3 +1,4 @@
+-- The two tests of the field and of the number, and what is left where both hold.
 use borrow.Author.Tests.{le-leb, lt-leb}
 use lib.ListN.{getD}
 use Rattle.text.specs.Composed.{limits, put}

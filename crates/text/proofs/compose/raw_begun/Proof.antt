@@ -1,3 +1,4 @@
+-- The word is empty again.
 use borrow.Author.Needs.{needs}
 use Rattle.text.proofs.compose.raw_begun.Statement.{statement}
 use Rattle.text.proofs.compose.raw_begun.Tie as tie

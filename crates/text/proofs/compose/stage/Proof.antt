@@ -1,3 +1,4 @@
+-- A record is written where it has room; else the line is too long.
 use Prim.Native.Nat.{ℕ, _+_}
 use mathlib.Core.Path.{_≡_, sym, _∙_}
 use borrow.Author.Tests.{eq-eqb, ne-eqb, leb-true}

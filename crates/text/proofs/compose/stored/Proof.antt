@@ -1,3 +1,4 @@
+-- A place past the word's end stores nothing.
 use mathlib.Core.Path.{_≡_, sym}
 use native.Mathlib.Omega.{arith}
 use lib.ListN.{length}

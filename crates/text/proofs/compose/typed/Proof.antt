@@ -1,3 +1,4 @@
+-- A byte goes to the word, and a pair of digits is a byte.
 use mathlib.Core.Path.{sym, _∙_, ap}
 use Rattle.text.specs.Composed.{made, withWord}
 use Rattle.text.proofs.Machine.{typed-pair, typed-on}
@@ -21,10 +22,14 @@ same-length : tie.Need-same-length
 same-length c = search needs
 
 returns : tie.Need-returns
-returns c = typed-pair (made (c .before .before .before .before .before .before .before .before .before .before .args .d) (c .before .before .before .before .before .before .before .before .before .before .args .out .now)) (c .before .before .before .before .before .before .before .before .before .before .args .byte) _ _ (c .before .before .before .before .before .before .with-word .ensures ∙ ap (withWord (c .before .before .before .before .before .before .before .before .before .before .args .d)) (c .before .before .before .before .before .before .before .push .ensures)) (sym (c .before .before .before .before .before .is-pair .ensures) ∙ c .before .before .before .before .if1 .taken) (c .before .before .hex .ensures)
+returns c =
+    let start = c .before .before .before .before .before .before .before .before .before .before .args in
+    typed-pair (made (start .d) (start .out .now)) (start .byte) _ _ (c .before .before .before .before .before .before .with-word .ensures ∙ ap (withWord (start .d)) (c .before .before .before .before .before .before .before .push .ensures)) (sym (c .before .before .before .before .before .is-pair .ensures) ∙ c .before .before .before .before .if1 .taken) (c .before .before .hex .ensures)
 
 returns-2 : tie.Need-returns-2
-returns-2 c = typed-on (made (c .before .before .before .before .before .before .args .d) (c .before .before .before .before .before .before .args .out .now)) (c .before .before .before .before .before .before .args .byte) _ (c .before .before .with-word .ensures ∙ ap (withWord (c .before .before .before .before .before .before .args .d)) (c .before .before .before .push .ensures)) (sym (c .before .is-pair .ensures) ∙ c .if1 .left)
+returns-2 c =
+    let start = c .before .before .before .before .before .before .args in
+    typed-on (made (start .d) (start .out .now)) (start .byte) _ (c .before .before .with-word .ensures ∙ ap (withWord (start .d)) (c .before .before .before .push .ensures)) (sym (c .before .is-pair .ensures) ∙ c .if1 .left)
 
 pub typed-spec : {M : Type 1} → statement M
 typed-spec =

@@ -1,3 +1,4 @@
+-- The first ten digits are numbers, the others letters.
 use borrow.Author.Tests.{le-leb, lt-leb}
 use borrow.Author.Needs.{needs}
 use Rattle.text.proofs.show.digit.Statement.{statement}

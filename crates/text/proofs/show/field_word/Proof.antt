@@ -1,3 +1,4 @@
+-- Two fields have a word by the kind.
 use native.Mathlib.Omega.{arith}
 use borrow.Author.Needs.{needs}
 use Rattle.text.proofs.show.field_word.Statement.{statement}

@@ -1,3 +1,4 @@
+-- A bearer that joins takes one place of those that are owed.
 use mathlib.Core.Path.{sym, _∙_}
 use native.Mathlib.Omega.{arith}
 use borrow.Author.Tests.{leb-true}
@@ -11,7 +12,9 @@ joins-requires : tie.Need-joins-requires
 joins-requires c κs = search needs
 
 sub-result : tie.Need-sub-result
-sub-result c = omega (arith, leb-true 1 (c .before .before .before .args .s .owed) (both-true (leb 1 (c .before .before .before .args .s .owed)) (eqb (c .before .before .before .args .r .kind) 16) (sym (c .before .before .joins .ensures) ∙ c .before .if1 .taken) .0))
+sub-result c =
+    let start = c .before .before .before .args in
+    omega (arith, leb-true 1 (start .s .owed) (both-true (leb 1 (start .s .owed)) (eqb (start .r .kind) 16) (sym (c .before .before .joins .ensures) ∙ c .before .if1 .taken) .0))
 
 returns : tie.Need-returns
 returns c = rw (sym (c .before .before .joins .ensures) ∙ c .before .if1 .taken)

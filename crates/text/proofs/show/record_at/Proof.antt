@@ -1,3 +1,4 @@
+-- There is room for a record, so it is read.
 use mathlib.Core.Path.{sym, _∙_}
 use borrow.Author.Tests.{le-leb}
 use Prim.Native.Nat.{_+_}
@@ -22,10 +23,14 @@ zeros-requires : tie.Need-zeros-requires
 zeros-requires c κs = search needs
 
 returns : tie.Need-returns
-returns c = sym (was-whole (roomAt (c .before .before .before .before .before .args .bytes .now) 0) (recordOf (take 32 (c .before .before .before .before .before .args .bytes .now))) _ (sym (c .before .before .before .read .ensures) ∙ c .before .read2 .given .1) .1)
+returns c =
+    let start = c .before .before .before .before .before .args in
+    sym (was-whole (roomAt (start .bytes .now) 0) (recordOf (take 32 (start .bytes .now))) _ (sym (c .before .before .before .read .ensures) ∙ c .before .read2 .given .1) .1)
 
 returns-2 : tie.Need-returns-2
-returns-2 c = absurd (false≢true (sym (was-short (roomAt (c .before .before .before .before .before .args .bytes .now) 0) (recordOf (take 32 (c .before .before .before .before .before .args .bytes .now))) (sym (c .before .before .before .read .ensures) ∙ c .before .enum-told .given .1)) ∙ le-leb (0 + 32) (length (c .before .before .before .before .before .args .bytes .now)) (c .before .before .before .before .before .pre)))
+returns-2 c =
+    let start = c .before .before .before .before .before .args in
+    absurd (false≢true (sym (was-short (roomAt (start .bytes .now) 0) (recordOf (take 32 (start .bytes .now))) (sym (c .before .before .before .read .ensures) ∙ c .before .enum-told .given .1)) ∙ le-leb (0 + 32) (length (start .bytes .now)) (c .before .before .before .before .before .pre)))
 
 pub record-at-spec : {M : Type 1} → statement M
 record-at-spec =

@@ -1,3 +1,4 @@
+-- Each field fits in 64 bits.
 use native.Mathlib.Omega.{arith}
 use borrow.Author.Needs.{needs}
 use Rattle.text.proofs.show.values_of.Statement.{statement}

@@ -1,3 +1,4 @@
+-- A line feed, or nothing.
 use mathlib.Core.Path.{refl}
 use native.Mathlib.Omega.{arith}
 use borrow.Author.Needs.{needs}

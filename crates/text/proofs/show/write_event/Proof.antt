@@ -1,3 +1,4 @@
+-- What stands before a record, and the record after it.
 use Rattle.text.proofs.Writing.{event-written}
 use borrow.Author.Needs.{needs}
 use Rattle.text.proofs.show.write_event.Statement.{statement}

@@ -26,7 +26,9 @@ array-read-write-field : tie.Need-array-read-write-field Inv-loop μ-loop
 array-read-write-field c = c .loop-test .taken
 
 write-field-requires : tie.Need-write-field-requires Inv-loop μ-loop
-write-field-requires c κs = (omega (arith, c .before .loop-test .taken), omega (arith, c .before .before .loop .inv .0, c .before .before .loop .inv .2, c .before .before .loop .inv .3, c .before .loop-test .taken, c .before .before .before .before .pre))
+write-field-requires c κs =
+    let now = c .before .before .loop in
+    (omega (arith, c .before .loop-test .taken), omega (arith, now .inv .0, now .inv .2, now .inv .3, c .before .loop-test .taken, c .before .before .before .before .pre))
 
 add-f : tie.Need-add-f Inv-loop μ-loop
 add-f c = omega (arith, c .before .before .before .before .loop-test .taken)

@@ -19,7 +19,9 @@ loop-holds : tie.Need-loop-holds Inv-loop μ-loop
 loop-holds c = (omega arith, refl, omega arith, refl, refl)
 
 write-id-requires : tie.Need-write-id-requires Inv-loop μ-loop
-write-id-requires c κs = omega (arith, c .before .before .loop .inv .1, c .before .before .loop .inv .2, c .before .loop-test .taken, c .before .before .before .before .pre)
+write-id-requires c κs =
+    let now = c .before .before .loop in
+    omega (arith, now .inv .1, now .inv .2, c .before .loop-test .taken, c .before .before .before .before .pre)
 
 add-id : tie.Need-add-id Inv-loop μ-loop
 add-id c = omega (arith, c .before .before .before .before .loop-test .taken)

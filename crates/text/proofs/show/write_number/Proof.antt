@@ -1,3 +1,4 @@
+-- A space, and the digits after it.
 use mathlib.Core.Path.{_∙_}
 use native.Mathlib.Omega.{arith}
 use lib.ListN.{length-set}
@@ -26,7 +27,9 @@ same-length : tie.Need-same-length
 same-length c = c .before .before .spell .kept .1 .1 .0 ∙ length-set (c .before .before .before .before .before .before .args .out .now) _ _
 
 returns : tie.Need-returns
-returns c = numbered (c .before .before .before .before .before .before .args .out .now) _ (c .before .before .before .before .before .before .args .at) (c .before .before .before .before .before .before .args .n) _ (c .before .before .before .before .size .ensures) (c .before .before .spell .ensures)
+returns c =
+    let start = c .before .before .before .before .before .before .args in
+    numbered (start .out .now) _ (start .at) (start .n) _ (c .before .before .before .before .size .ensures) (c .before .before .spell .ensures)
 
 pub write-number-spec : {M : Type 1} → statement M
 write-number-spec =

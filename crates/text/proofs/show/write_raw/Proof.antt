@@ -1,3 +1,4 @@
+-- The word, a space, and the digits after it.
 use mathlib.Core.Path.{_∙_}
 use native.Mathlib.Omega.{arith}
 use lib.ListN.{length-set}

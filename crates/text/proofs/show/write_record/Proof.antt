@@ -1,3 +1,4 @@
+-- By its words where its kind has one, else by its digits.
 use mathlib.Core.Path.{sym, _∙_}
 use native.Mathlib.Omega.{arith}
 use Rattle.text.proofs.Digits.{between}

@@ -1,3 +1,4 @@
+-- Nothing where nothing is left; else its digits and a line feed.
 use mathlib.Core.Path.{refl}
 use mathlib.Core.List.{[], _∷_}
 use native.Mathlib.Omega.{arith}

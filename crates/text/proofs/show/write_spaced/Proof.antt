@@ -1,3 +1,4 @@
+-- A space, and the word after it.
 use mathlib.Core.Path.{_∙_}
 use native.Mathlib.Omega.{arith}
 use lib.ListN.{length-set}
@@ -20,7 +21,9 @@ same-length : tie.Need-same-length
 same-length c = c .before .before .write-word .kept .1 .0 ∙ length-set (c .before .before .before .before .before .args .out .now) _ _
 
 returns : tie.Need-returns
-returns c = after-space (c .before .before .before .before .before .args .out .now) _ (c .before .before .before .before .before .args .at) _ (wordAt (c .before .before .before .before .before .args .word)) (c .before .before .write-word .ensures .0) (c .before .before .write-word .ensures .1) (c .before .before .write-word .ensures .2)
+returns c =
+    let start = c .before .before .before .before .before .args in
+    after-space (start .out .now) _ (start .at) _ (wordAt (start .word)) (c .before .before .write-word .ensures .0) (c .before .before .write-word .ensures .1) (c .before .before .write-word .ensures .2)
 
 pub write-spaced-spec : {M : Type 1} → statement M
 write-spaced-spec =

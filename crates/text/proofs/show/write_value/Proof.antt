@@ -1,3 +1,4 @@
+-- A set by its IDs, a number by its digits.
 use mathlib.Core.Path.{sym, _∙_}
 use native.Mathlib.Omega.{arith}
 use borrow.Author.Needs.{needs}

@@ -1,3 +1,4 @@
+-- The word of its kind, and its fields after it.
 use native.Mathlib.Omega.{arith}
 use Rattle.lines.proofs.Writing.{joined}
 use lib.ListN.{drop}

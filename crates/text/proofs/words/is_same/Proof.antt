@@ -3,13 +3,12 @@ use Prim.Native.Nat.{ℕ, _+_, _-_, _≤_, _<_}
 use mathlib.Core.Path.{_≡_, refl, sym, _∙_}
 use mathlib.Core.Bool.{Bool, true, false, _&&_}
 use mathlib.Core.List.{List}
-use native.Mathlib.Numerals.{add-one}
 use native.Mathlib.Omega.{arith}
 use borrow.Author.Needs.{needs}
 use lib.Dec.{eqb}
-use lib.ListN.{length, getD, drop, drop-of-length-le}
-use lib.Seq.{drop-cons}
+use lib.ListN.{length, getD, drop}
 use Rattle.text.specs.Words.{isSame}
+use Rattle.text.proofs.Comparing.{same-next, same-end}
 use Rattle.text.proofs.words.is_same.Statement.{statement}
 use Rattle.text.proofs.words.is_same.Tie as tie
 
@@ -21,14 +20,12 @@ abbrev μ-loop : tie.MeasureT-loop
 
 -- one place more
 one-more : (same : Bool) (a b : List ℕ) (i : ℕ) → i < length a → i < length b → ((same && eqb (getD a i 0) (getD b i 0)) && isSame (drop (i + 1) a) (drop (i + 1) b)) ≡ (same && isSame (drop i a) (drop i b))
-unfolding isSame
-one-more true a b i h k = rw (drop-cons a i 0 h, drop-cons b i 0 k, add-one i)
+one-more true a b i h k = sym (same-next a b i h k)
 one-more false a b i h k = refl
 
 -- none is left
 done : (same : Bool) (a b : List ℕ) → length a ≡ 16 → length b ≡ 16 → (same && isSame (drop 16 a) (drop 16 b)) ≡ same
-unfolding isSame
-done true a b h k = rw (drop-of-length-le a {i = 16} (omega arith), drop-of-length-le b {i = 16} (omega arith))
+done true a b h k = same-end a b 16 (omega arith) (omega arith)
 done false a b h k = refl
 
 loop-holds : tie.Need-loop-holds Inv-loop μ-loop

@@ -62,7 +62,9 @@ loop-again c =
     (omega (arith, now .inv .0), c .either .ensures ∙ rw (c .before .is-same .ensures) (one-back words (now .i) (now .found) (c .before .before .before .before .before .args .text) (c .before .before .before .loop-test .taken) (omega (arith, now .inv .0)) (now .inv .1)))
 
 returns : tie.Need-returns Inv-loop μ-loop
-returns c = done words (c .before .loop .i) (c .before .loop .found) (c .before .before .args .text) (c .loop-test .left) (c .before .loop .inv .1)
+returns c =
+    let now = c .before .loop in
+    done words (now .i) (now .found) (c .before .before .args .text) (c .loop-test .left) (now .inv .1)
 
 pub place-of-spec : {M : Type 1} → statement M
 place-of-spec =

@@ -1,7 +1,7 @@
+-- What is left of the text, written after what is there, gives the whole.
 use mathlib.Core.Logic.{_⊎_, inl, inr, ⊎-elim}
 use mathlib.Core.Bool.{true}
 use lib.ListN.{drop-of-length-le}
--- What is left of the text, written after what is there, gives the whole.
 use Prim.Native.Nat.{ℕ, suc, _+_, _-_, _≤_, _<_}
 use mathlib.Core.Path.{_≡_, refl, _∙_}
 use mathlib.Core.Bool.{false}

@@ -1,3 +1,4 @@
+-- A word of the table, up to its first space.
 use Rattle.text.specs.Words.{wordAt}
 use borrow.Author.Needs.{needs}
 use Rattle.text.proofs.words.write_word.Statement.{statement}

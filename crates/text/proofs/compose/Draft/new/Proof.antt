@@ -1,3 +1,4 @@
+-- The values are zeros and the word is empty.
 use borrow.Author.Needs.{needs}
 use Rattle.text.proofs.compose.Draft.new.Statement.{statement}
 use Rattle.text.proofs.compose.Draft.new.Tie as tie

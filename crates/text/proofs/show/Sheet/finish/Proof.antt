@@ -1,3 +1,4 @@
+-- Where there is room, the end of the open line and then the rest.
 use Prim.Native.Nat.{ℕ, _≤_}
 use mathlib.Core.Path.{_≡_, refl}
 use mathlib.Core.Bool.{false, not, _&&_}
@@ -20,10 +21,14 @@ room rest out t =
     (leb-true (length rest) 31 (both .0), leb-true 96 (length out) (both .1))
 
 returns : tie.Need-returns
-returns c = rw (not-true (leb (length (c .before .before .before .args .rest .now)) 31 && leb 96 (length (c .before .before .before .args .out .now))) (c .if1 .taken)) (refl, refl)
+returns c =
+    let start = c .before .before .before .args in
+    rw (not-true (leb (length (start .rest .now)) 31 && leb 96 (length (start .out .now))) (c .if1 .taken)) (refl, refl)
 
 write-end-requires : tie.Need-write-end-requires
-write-end-requires c κs = omega (arith, room (c .before .before .before .before .args .rest .now) (c .before .before .before .before .args .out .now) (c .before .if1 .left) .1)
+write-end-requires c κs =
+    let start = c .before .before .before .before .args in
+    omega (arith, room (start .rest .now) (start .out .now) (c .before .if1 .left) .1)
 
 write-rest-requires : tie.Need-write-rest-requires
 write-rest-requires c κs =

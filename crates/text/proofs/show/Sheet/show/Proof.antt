@@ -1,3 +1,4 @@
+-- Where a record is there and has room, its text is written and the sheet goes on.
 use Prim.Native.Nat.{ℕ, _≤_}
 use mathlib.Core.Path.{_≡_, refl, sym}
 use mathlib.Core.Bool.{true}
@@ -20,10 +21,14 @@ room bytes out t =
     (leb-true 32 (length bytes) (both .0), leb-true 4959 (length out) (both .1))
 
 record-at-requires : tie.Need-record-at-requires
-record-at-requires c κs = room (c .before .before .before .args .bytes .now) (c .before .before .before .args .out .now) (c .if1 .taken) .0
+record-at-requires c κs =
+    let start = c .before .before .before .args in
+    room (start .bytes .now) (start .out .now) (c .if1 .taken) .0
 
 slice-aggregate-write-event : tie.Need-slice-aggregate-write-event
-slice-aggregate-write-event c = sym (length-take-le 32 (c .before .before .before .before .before .args .bytes .now) (room (c .before .before .before .before .before .args .bytes .now) (c .before .before .before .before .before .args .out .now) (c .before .before .if1 .taken) .0))
+slice-aggregate-write-event c =
+    let start = c .before .before .before .before .before .args in
+    sym (length-take-le 32 (start .bytes .now) (room (start .bytes .now) (start .out .now) (c .before .before .if1 .taken) .0))
 
 write-event-requires : tie.Need-write-event-requires
 write-event-requires c κs =
