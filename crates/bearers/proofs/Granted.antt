@@ -3,7 +3,8 @@ use Prim.Native.Nat.{ℕ, _-_, _≤_, _<_}
 use mathlib.Core.Path.{_≡_, refl, _∙_, sym, ap}
 use mathlib.Core.Bool.{Bool, true, false, cond, _&&_, true≢false}
 use mathlib.Core.List.{List, [], _∷_}
-use borrow.Author.Tests.{eq-eqb, ne-eqb, eqb-false, le-leb, lt-ltb, leb-true, ltb-true, ltb-false}
+use borrow.Author.Tests.{ne-eqb, eqb-false, le-leb, lt-ltb, leb-true, ltb-true, ltb-false}
+use store.Seg.{eqb-same}
 use native.Mathlib.Omega.{arith}
 use lib.Bits.{or-zero-r}
 use lib.Dec.{leb, ltb, eqb}
@@ -87,7 +88,7 @@ granted-those [] free distinct = refl
 granted-those (t ∷ ts) free distinct =
     let next : (left : ℕ) → after free t ≡ left → granted ts left ≡ those (fits (t ∷ ts) free) ts =
     λ left e. granted-those ts left (distinct-rest t ts distinct) ∙ sym (fits-after t ts free distinct ∙ ap (λ (n : ℕ). those (fits ts n) ts) e) in
-    rw (eq-eqb (t .id) (t .id) refl)
+    rw (eqb-same (t .id))
     (by-cases (leb (t .units) free)
     (λ e. rw e (ap (λ (l : List Bearer). t ∷ l) (next (free - t .units) (rw e))))
     (λ e. rw e (next free (rw e))))

@@ -3,7 +3,8 @@ use Prim.Native.Nat.{ℕ, zero, suc, _+_, _≤_, _<_}
 use mathlib.Core.Path.{_≡_, refl, _∙_, sym, ap₂, subst}
 use mathlib.Core.Bool.{Bool, true, false, cond, not, _&&_}
 use mathlib.Core.List.{List, [], _∷_, _++_, map}
-use borrow.Author.Tests.{eq-eqb, ne-eqb, eqb-true, eqb-false, le-leb, lt-leb, lt-ltb, le-ltb, leb-true, leb-false}
+use borrow.Author.Tests.{ne-eqb, eqb-true, eqb-false, le-leb, lt-leb, lt-ltb, le-ltb, leb-true, leb-false}
+use store.Seg.{eqb-same}
 use native.Mathlib.Omega.{arith}
 use lib.Dec.{leb, ltb, eqb}
 use lib.ListN.{length, getD}
@@ -47,7 +48,7 @@ once k b = cond (eqb (b .id) k) 1 0
 
 -- It counts for its own ID, and for no other.
 pub once-own : (b : Bearer) → once (b .id) b ≡ 1
-once-own b = rw (eq-eqb (b .id) (b .id) refl)
+once-own b = rw (eqb-same (b .id))
 
 pub once-other : (k : ℕ) (b : Bearer) → (b .id ≡ k → ⊥) → once k b ≡ 0
 once-other k b other = rw (ne-eqb (b .id) k other)

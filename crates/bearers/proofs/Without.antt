@@ -3,7 +3,8 @@ use Prim.Native.Nat.{ℕ, zero, suc, _+_, _≤_, _<_}
 use mathlib.Core.Path.{_≡_, refl, ap, ap₂}
 use mathlib.Core.Bool.{Bool, true, false}
 use mathlib.Core.List.{List, [], _∷_, _++_}
-use borrow.Author.Tests.{eq-eqb, ne-eqb, eqb-true, eqb-false, lt-leb}
+use borrow.Author.Tests.{ne-eqb, eqb-true, eqb-false, lt-leb}
+use store.Seg.{eqb-same}
 use native.Mathlib.Omega.{arith}
 use lib.Dec.{eqb}
 use Rattle.laws.specs.Sums.{total}
@@ -81,7 +82,7 @@ turns-without {b} {xs} {ys} (suc n) p low high w =
 free-without : {b : Bearer} {xs ys : List Bearer} (k free : ℕ) → Without b xs ys → Distinct xs → (b .id ≡ k → ⊥) → freeAt xs (b .id) free < b .units → freeAt xs k free ≡ freeAt ys k free
 unfolding freeAt
 free-without {b} k free (here {xs}) distinct other more =
-    let left : free < b .units = rw (eq-eqb (b .id) (b .id) refl) at more in
+    let left : free < b .units = rw (eqb-same (b .id)) at more in
     rw (ne-eqb (b .id) k other, lt-leb (b .units) free left)
 free-without {b} k free (there {x} {xs} w) distinct other more =
     let own : x .id ≡ b .id → ⊥ = λ e. let none : occurs (b .id) xs ≡ 0 = rw e at (distinct-first x xs distinct) in omega (arith, occurs-own w) in

@@ -5,8 +5,8 @@ use mathlib.Core.List.{List, [], _++_}
 use native.Mathlib.Nat.{zero-add}
 use native.Mathlib.Omega.{arith}
 use borrow.Author.Tests.{le-leb}
-use lib.ListN.{length, getD, take, drop, length-append, length-drop}
-use lib.Seq.{sets, sets-eq, take-at, getD-take, length-take-le}
+use lib.ListN.{length, getD, take, drop, length-append, length-drop, List·getD-append}
+use lib.Seq.{sets, sets-eq, take-at, getD-at, getD-take, length-take-le}
 use Rattle.records.specs.Record.{bytesOf, writtenAt, InRange}
 use Rattle.records.specs.declared.Record.{Record}
 use Rattle.text.specs.Composed.{recordFrom}
@@ -51,6 +51,27 @@ pub holds-bytes : (out bytes : List ℕ) → length out ≡ 8224 → length byte
 holds-bytes out bytes h room =
     let put : sets out 0 bytes ≡ take 0 out ++ bytes ++ drop (0 + length bytes) out = sets-eq bytes out 0 (omega arith) in
     rw (put, zero-add) (rw zero-add at (holds-more (holds-none out h) (length bytes) bytes refl (omega arith)))
+
+-- A record that is written where there is room: the buffer is as long as before, the bytes before it stay, and its kind is its first.
+module _ (r : Record) (out : List ℕ) (s : ℕ) (room : s + 32 ≤ length out) where
+  here : length (take s out) ≡ s
+  here = length-take-le s out (omega arith)
+
+  pub written-size : length (writtenAt r out s) ≡ length out
+  written-size = rw (le-leb (s + 32) (length out) room, length-append, length-append, here, length-drop) (omega arith)
+
+  pub written-before : (i : ℕ) → i < s → getD (writtenAt r out s) i 0 ≡ getD out i 0
+  written-before i h =
+      rw (le-leb (s + 32) (length out) room)
+      (List·getD-append (take s out ++ bytesOf r) (drop (s + 32) out) 0 i (rw (length-append, here) (omega arith))
+      ∙ List·getD-append (take s out) (bytesOf r) 0 i (rw here h)
+      ∙ getD-take s out i 0 h)
+
+  pub written-at : getD (writtenAt r out s) s 0 ≡ r .kind
+  written-at =
+      rw (le-leb (s + 32) (length out) room)
+      (List·getD-append (take s out ++ bytesOf r) (drop (s + 32) out) 0 s (rw (length-append, here) (omega arith))
+      ∙ getD-at (take s out) (r .kind) (drop 1 (bytesOf r)) 0 s here)
 
 -- The record of its fields is the record.
 pub fields-back : (r : Record) → InRange r → recordFrom (valuesOf r) ≡ r

@@ -4,6 +4,7 @@ pub mod Filling
 pub mod Leading
 pub mod Lines
 pub mod Members
+pub mod OneEvent
 pub mod Raw
 pub mod Reading
 pub mod Typing

@@ -1,9 +1,10 @@
--- Whole files: what records are shown as, and what records a text makes.
-use Prim.Native.Nat.{ℕ, zero, suc, _/_}
+-- Whole files: what records are shown as, what records a text makes, and what a line makes.
+use Prim.Native.Nat.{ℕ, zero, suc, _*_, _/_, _≤_, _<_}
+use mathlib.Core.Path.{_≡_}
 use mathlib.Core.Bool.{cond}
 use mathlib.Core.List.{List, [], _∷_, _++_}
 use lib.Dec.{leb}
-use lib.ListN.{length, take, drop}
+use lib.ListN.{length, getD, take, drop}
 use Rattle.text.specs.declared.show.Sheet.{Sheet}
 use Rattle.text.specs.Shown.{newSheet, shownOf, shownText, lastText}
 use Rattle.text.specs.Composed.{Made, made, step, newDraft}
@@ -35,3 +36,11 @@ composedFrom (b ∷ bs) m =
 -- the records that a text makes, in a buffer
 abbrev pub composedIn : List ℕ → List ℕ → List ℕ
 composedIn out text = composedFrom text (made newDraft out)
+
+-- "one event a line": so many records, those after the first being bearers, and the first then a request
+pub record OneEvent (staged : ℕ) (out : List ℕ) : Type 0 where
+  pub count : ℕ
+  pub whole : staged ≡ 32 * count
+  pub within : staged ≤ length out
+  pub request : 2 ≤ count → getD out 0 0 ≡ 1
+  pub bearers : (i : ℕ) → 1 ≤ i → i < count → getD out (32 * i) 0 ≡ 16

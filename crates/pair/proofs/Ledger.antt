@@ -5,7 +5,8 @@ use Prim.Native.Nat.{ℕ, _+_, _≤_, _<_}
 use mathlib.Core.Path.{_≡_, refl, sym, ap, _∙_}
 use mathlib.Core.List.{List}
 use mathlib.Core.Option.{Option, none, some}
-use borrow.Author.Tests.{eqb-true, eqb-false, eq-eqb, ne-eqb, le-ltb}
+use borrow.Author.Tests.{eqb-true, eqb-false, ne-eqb, le-ltb}
+use store.Seg.{eqb-same}
 use native.Mathlib.Omega.{arith}
 use lib.Dec.{leb, ltb, eqb}
 use lib.ListN.{length}
@@ -96,7 +97,7 @@ module _ {x : Station} {a : Answer} (n : Numbers) where
       (λ t.
       let same = eqb-true i j t in
       let below = walk-below (laws .range .0) (one j refl .walk) in
-      rw t (λ was. (omega arith, rw (eq-eqb (nextIssue n) (nextIssue n) refl) (sym same), omega arith)))
+      rw t (λ was. (omega arith, rw (eqb-same (nextIssue n)) (sym same), omega arith)))
       (λ t. rw t (λ was.
       let k = known i was in
       (omega arith, rw (ne-eqb (n .issueOf i) (nextIssue n) (λ same. omega arith)) (k .1), k .2)))

@@ -7,6 +7,7 @@ use mathlib.Core.List.{List, [], _∷_, nil≢cons}
 use mathlib.Core.Logic.{_⊎_, inl, inr, ⊎-elim}
 use mathlib.Core.Option.{Option, none}
 use borrow.Author.Tests.{eqb-true, eqb-false, eq-eqb, not-true, leb-true, leb-false}
+use store.Seg.{eqb-same}
 use native.Mathlib.Omega.{arith}
 use lib.Dec.{leb, eqb}
 use Rattle.laws.proofs.Tests.{by-cases, both-true, clash, refuted}
@@ -117,16 +118,16 @@ module _ {s : Side} {d : Direction} {e : Record} {a : Answer} {taken : Option En
   start-counts start = rw (request-issues (d .towards) a start)
 
   pub start-latest : to 1 (d .towards) a ≡ true → after .numbers .issueOf (sent a .old .0) ≡ nextIssue (d .numbers)
-  start-latest start = rw (request-issues (d .towards) a start, eq-eqb (sent a .old .0) (sent a .old .0) refl)
+  start-latest start = rw (request-issues (d .towards) a start, eqb-same (sent a .old .0))
 
   pub start-number : to 1 (d .towards) a ≡ true → after .numbers .numberOf (nextIssue (d .numbers)) ≡ sent a .old .0
-  start-number start = rw (request-issues (d .towards) a start, eq-eqb (nextIssue (d .numbers)) (nextIssue (d .numbers)) refl)
+  start-number start = rw (request-issues (d .towards) a start, eqb-same (nextIssue (d .numbers)))
 
   pub asked-stays : (h : ℕ) → d .handovers h .asked ≡ true → after .handovers h .asked ≡ true
   asked-stays h asked = rw asked
 
   pub asked-now : to 1 (d .towards) a ≡ true → after .handovers (nextIssue (d .numbers)) .asked ≡ true
-  asked-now start = rw (start, eq-eqb (nextIssue (d .numbers)) (nextIssue (d .numbers)) refl) (or-true (d .handovers (nextIssue (d .numbers)) .asked))
+  asked-now start = rw (start, eqb-same (nextIssue (d .numbers))) (or-true (d .handovers (nextIssue (d .numbers)) .asked))
 
   -- ---- the release of a handover comes while its record is prepared
 

@@ -6,6 +6,7 @@ use mathlib.Core.Bool.{true, false, _&&_, false≢true}
 use mathlib.Core.List.{List}
 use mathlib.Core.Option.{Option, some}
 use borrow.Author.Tests.{eqb-true, eq-eqb, ne-eqb}
+use store.Seg.{eqb-same}
 use native.Mathlib.Omega.{arith}
 use lib.Dec.{eqb}
 use Rattle.laws.proofs.Tests.{by-cases, both-true, clash, refuted}
@@ -256,7 +257,7 @@ module _ {s : Side} {d : Direction} {e : Record} {a : Answer} {taken : Option En
       all-posted (d .back) posting (d .answers)
       (all-both (λ m replied of two set now. standing m (replied two) (of two) set (held-after x i (newOf m) (oldOf m) set now)) (i .acknowledges) (i .held-acknowledge))
       (λ posted two set now.
-      acknowledge-belongs two ∙ sym (rw (posted-to (d .back) a 2 posted two, eq-eqb (newOf posting) (newOf posting) refl)))
+      acknowledge-belongs two ∙ sym (rw (posted-to (d .back) a 2 posted two, eqb-same (newOf posting))))
     where
       standing : (m : Envelope) → Replied s d m (Fixed (newOf m) (setOf m))
           → ((set : ℕ) → reserved d (newOf m) ≡ Held (oldOf m) set → m .tag ≡ d .fixedFor (newOf m))

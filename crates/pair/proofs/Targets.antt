@@ -7,6 +7,7 @@ use mathlib.Core.List.{List}
 use mathlib.Core.Logic.{⊎-elim}
 use mathlib.Core.Option.{Option}
 use borrow.Author.Tests.{eqb-true, eqb-false, eq-eqb}
+use store.Seg.{eqb-same}
 use native.Mathlib.Omega.{arith}
 use lib.Dec.{eqb}
 use Rattle.laws.proofs.Tests.{by-cases, clash}
@@ -89,7 +90,7 @@ module _ {s : Side} {d : Direction} {e : Record} {a : Answer} {taken : Option En
   pub request-taken : e .kind ≡ 1 → e .neighbour ≡ d .back → took 1 (tagOf taken) taken ≡ true
   request-taken one from =
       let t = taken-of 1 (omega arith) (omega arith) one from (x .comes) in
-      rw (t .is, eq-eqb (kindOf (t .first)) 1 (t .kind), eq-eqb (t .first .tag) (t .first .tag) refl)
+      rw (t .is, eq-eqb (kindOf (t .first)) 1 (t .kind), eqb-same (t .first .tag))
 
   pub held-after : (n old set : ℕ) → held (a .station) (d .back) n ≡ Held old set
       → HeldAfter d a (tagOf taken) (targetAfter s d e a taken rest stamp issue .fixedFor n) n old set

@@ -3,7 +3,8 @@ use Prim.Native.Nat.{ℕ, zero, suc, _+_, _≤_, _<_}
 use mathlib.Core.Path.{_≡_, refl, ap, subst, _∙_}
 use mathlib.Core.Bool.{Bool, true, false, cond, _&&_, _||_}
 use mathlib.Core.List.{List, [], _∷_, map}
-use borrow.Author.Tests.{eq-eqb, ne-eqb}
+use borrow.Author.Tests.{ne-eqb}
+use store.Seg.{eqb-same}
 use native.Mathlib.Omega.{arith}
 use lib.Dec.{eqb}
 use lib.ListN.{length, getD, replicate}
@@ -82,7 +83,7 @@ cancelled-second n h =
     ap (λ (a : Answer). a .station)
     (row-step (twoFrom (suc n)) (cancel (suc n) .event) [] 0 (ap (λ (b : Bool). b && true && true && true && true) (used-in-range 4095 (suc n) h)) 1 8 refl
     (ap (λ (b : Bool). cond (b && true) (At 0) (cond (eqb (suc n) (suc n) && true) (At 1) Nothing)) (ne-eqb 0 (suc n) (λ e. omega arith))
-    ∙ ap (λ (b : Bool). cond (b && true) (At 1) Nothing) (eq-eqb (suc n) (suc n) refl)) refl)
+    ∙ ap (λ (b : Bool). cond (b && true) (At 1) Nothing) (eqb-same (suc n))) refl)
 
 pub issued : (n : ℕ) → n ≤ 4095 → Reached (issuedLast n)
 unfolding findFrom anyOf issueFrom

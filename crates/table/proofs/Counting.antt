@@ -3,7 +3,8 @@ use Prim.Native.Nat.{ℕ, zero, suc, _+_, _≤_, _<_}
 use mathlib.Core.Path.{_≡_, refl, _∙_, sym}
 use mathlib.Core.Bool.{true, false, cond, not, _&&_, or-false, true≢false}
 use mathlib.Core.List.{List}
-use borrow.Author.Tests.{eq-eqb, ne-eqb, eqb-true, eqb-false, leb-true, leb-false, le-leb, lt-leb}
+use borrow.Author.Tests.{ne-eqb, eqb-true, eqb-false, leb-true, leb-false, le-leb, lt-leb}
+use store.Seg.{eqb-same}
 use native.Mathlib.Omega.{arith}
 use lib.Dec.{leb, eqb}
 use lib.ListN.{getD}
@@ -114,7 +115,7 @@ pub own-is : (k : ℕ) (r : Entry) → ownIs k r ≡ true → eqb k (own r) ≡ 
 own-is k r used = both-true (not (isFree r)) (eqb k (own r)) (rw (own-equal k r) at used) .1
 
 pub own-itself : (r : Entry) → isFree r ≡ false → ownTimes (own r) r ≡ 1
-own-itself r used = rw (own-equal (own r) r, used, eq-eqb (own r) (own r) refl)
+own-itself r used = rw (own-equal (own r) r, used, eqb-same (own r))
 
 own-times : (k : ℕ) (r : Entry) → ownTimes k r ≤ is (own r) k
 own-times k r = once-le (ownIs k r) (eqb k (own r)) (own-is k r)

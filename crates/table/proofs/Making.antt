@@ -3,7 +3,8 @@ use Prim.Native.Nat.{ℕ, _+_, _<_}
 use mathlib.Core.Path.{_≡_, refl, sym, ap, _∙_}
 use mathlib.Core.Bool.{Bool, true, false, cond, true≢false}
 use mathlib.Core.Logic.{inr}
-use borrow.Author.Tests.{eqb-true, eqb-false, eq-eqb, ne-eqb}
+use borrow.Author.Tests.{eqb-true, eqb-false, ne-eqb}
+use store.Seg.{eqb-same}
 use native.Mathlib.Omega.{arith}
 use lib.Dec.{eqb}
 use lib.ListN.{length, getD, set}
@@ -75,7 +76,7 @@ module _ (s : Station) (sound : Sound s) (k : ℕ) (found : find isFree s ≡ At
       here : named (issue s) (add k (issue s) r s) ≡ r
       here =
           named-is (add k (issue s) r s) after (issue s) k (found-place s sound isFree k found)
-          (rw (at-place, own-equal (issue s) r, live, mine) (eq-eqb (issue s) (issue s) refl)) ∙ at-place
+          (rw (at-place, own-equal (issue s) r, live, mine) (eqb-same (issue s))) ∙ at-place
 
       unowned : (i : ℕ) (x : Entry) → isFree x ≡ true → ownIs i x ≡ false
       unowned i x t = rw (own-equal i x, t)
