@@ -48,20 +48,26 @@ module _ (e : Record) (t : wellFormed e ≡ true) where
   pub kind-small : e .kind < 18
   kind-small = kind-below (e .kind) (parts .0)
 
-  -- So its neighbour is in range, and its New ID but where a cancel has none, its number and its time, whatever its kind is.
-  pub neighbour-within : e .neighbour ≤ 31
-  neighbour-within =
+  -- So its neighbour and its Old ID are in range, and its New ID but where a cancel has none, its first set, its number and its time, whatever
+  -- its kind is.
+  ids : (inRange (usedBy (e .kind) 0) 31 (e .neighbour) ≡ true) × (inRange (usedBy (e .kind) 1) 4095 (e .old .0) ≡ true) × (inRange (usedBy (e .kind) 2) 4095 (e .new .0) || isAbsent e ≡ true)
+  ids =
       let neighbour = inRange (usedBy (e .kind) 0) 31 (e .neighbour) in
       let old = inRange (usedBy (e .kind) 1) 4095 (e .old .0) in
-      let new = inRange (usedBy (e .kind) 2) 4095 (e .new .0) || isAbsent e in
-      at-most (usedBy (e .kind) 0) 31 (e .neighbour) (both-true neighbour old (both-true (neighbour && old) new (parts .1) .0) .0)
+      let all = both-true (neighbour && old) (inRange (usedBy (e .kind) 2) 4095 (e .new .0) || isAbsent e) (parts .1) in
+      let two = both-true neighbour old (all .0) in
+      (two .0, two .1, all .1)
+
+  pub neighbour-within : e .neighbour ≤ 31
+  neighbour-within = at-most (usedBy (e .kind) 0) 31 (e .neighbour) (ids .0)
+
+  pub old-within : e .old .0 ≤ 4095
+  old-within = at-most (usedBy (e .kind) 1) 4095 (e .old .0) (ids .1)
 
   pub new-within : eqb (e .kind) 6 ≡ false → e .new .0 ≤ 4095
   new-within six =
-      let others = inRange (usedBy (e .kind) 0) 31 (e .neighbour) && inRange (usedBy (e .kind) 1) 4095 (e .old .0) in
       let new = inRange (usedBy (e .kind) 2) 4095 (e .new .0) in
-      let one = both-true others (new || isAbsent e) (parts .1) .1 in
-      by-cases new (λ u. at-most (usedBy (e .kind) 2) 4095 (e .new .0) u) (λ u. absurd (false≢true (rw (u, six) at one)))
+      by-cases new (λ u. at-most (usedBy (e .kind) 2) 4095 (e .new .0) u) (λ u. absurd (false≢true (rw (u, six) at (ids .2))))
 
   count-and-time : (setsInRange e && inRange (usedBy (e .kind) 6) 256 (e .number) ≡ true) × (inRange (usedBy (e .kind) 7) 1000000000000 (e .time) ≡ true)
   count-and-time = both-true (setsInRange e && inRange (usedBy (e .kind) 6) 256 (e .number)) (inRange (usedBy (e .kind) 7) 1000000000000 (e .time)) (parts .2)
@@ -71,3 +77,10 @@ module _ (e : Record) (t : wellFormed e ≡ true) where
 
   pub number-within : e .number ≤ 256
   number-within = at-most (usedBy (e .kind) 6) 256 (e .number) (both-true (setsInRange e) (inRange (usedBy (e .kind) 6) 256 (e .number)) (count-and-time .0) .1)
+
+  pub first-within : e .first ≤ 65535
+  first-within =
+      let first = inRange (usedBy (e .kind) 3) 65535 (e .first) in
+      let second = inRange (usedBy (e .kind) 4) 65535 (e .second) in
+      let sets = both-true (setsInRange e) (inRange (usedBy (e .kind) 6) 256 (e .number)) (count-and-time .0) .0 in
+      at-most (usedBy (e .kind) 3) 65535 (e .first) (both-true first second (both-true (first && second) (inRange (usedBy (e .kind) 5) 255 (e .reason)) sets .0) .0)

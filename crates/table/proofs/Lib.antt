@@ -23,6 +23,7 @@ pub mod Replies
 pub mod Requests
 pub mod Resetting
 pub mod Rows
+pub mod Sent
 pub mod Sides
 pub mod Soundness
 pub mod Strangers
