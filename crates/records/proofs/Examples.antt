@@ -5,7 +5,7 @@ use mathlib.Core.List.{List, [], _∷_, _++_, map}
 use lib.ListN.{replicate}
 use Rattle.records.specs.declared.Record.{Record}
 use Rattle.records.specs.declared.stream.Piece.the-variants.{Nothing, Short, Single, Request}
-use Rattle.records.specs.Record.{little, recordOf, bytesOf}
+use Rattle.records.specs.Record.{little, recordOf, bytesOf, zeros}
 use Rattle.records.specs.Stream.{bearersIn, pieceAt}
 
 -- ---- fields
@@ -40,6 +40,10 @@ atOffsets =
 pub layout : (recordOf offsets ≡ atOffsets) × (bytesOf atOffsets ≡ offsets)
 unfolding recordOf little
 layout = (refl, refl)
+
+-- the record of zeros is 32 of them
+pub zeros-bytes : bytesOf zeros ≡ replicate 32 0
+zeros-bytes = refl
 
 -- ---- a stream
 
