@@ -1,8 +1,10 @@
--- Line by line: what a text makes is what its lines make, as `Draft::read` reads them one after the other.
-use Prim.Native.Nat.{ℕ, suc}
+-- Line by line: what a text makes is what its lines make, as `Draft::read` reads them one after the other, in pieces cut anywhere.
+use Prim.Native.Nat.{ℕ, suc, _+_}
 use mathlib.Core.Path.{_≡_, refl, sym, _∙_, ap}
 use mathlib.Core.Bool.{Bool, true, false, false≢true}
 use mathlib.Core.List.{List, [], _∷_, _++_}
+use native.Mathlib.Nat.{zero-add}
+use native.Mathlib.Omega.{arith}
 use lib.ListN.{drop}
 use Rattle.laws.proofs.Tests.{by-cases, on-true, on-false}
 use Rattle.text.specs.Composed.{Made, step, readFrom, takenFrom}
@@ -27,6 +29,19 @@ none m = refl
 further : (b : ℕ) (bs : List ℕ) (m : Made) → ended m ≡ false → (readFrom (b ∷ bs) m ≡ readFrom bs (step m b)) × (takenFrom (b ∷ bs) m ≡ suc (takenFrom bs (step m b)))
 unfolding readFrom takenFrom
 further b bs m t = (on-false (ended m) _ _ t, on-false (ended m) _ _ t)
+
+-- How a line is cut into pieces does not matter: the next piece is read on where the one before it left the line.
+pub in-pieces : (piece more : List ℕ) (m : Made) → (readFrom (piece ++ more) m ≡ readFrom more (readFrom piece m)) × (takenFrom (piece ++ more) m ≡ takenFrom piece m + takenFrom more (readFrom piece m))
+unfolding takenFrom
+in-pieces [] more m = rw (none m, zero-add (takenFrom more m)) (refl, refl)
+in-pieces (b ∷ bs) more m =
+    by-cases (ended m)
+    (λ t. rw (over (b ∷ bs ++ more) m t .0, over (b ∷ bs ++ more) m t .1, over (b ∷ bs) m t .0, over (b ∷ bs) m t .1, over more m t .0, over more m t .1) (refl, refl))
+    (λ t.
+    let one = further b bs m t in
+    let all = further b (bs ++ more) m t in
+    let rest = in-pieces bs more (step m b) in
+    rw (one .0, one .1) (all .0 ∙ rest .0, all .1 ∙ omega (arith, rest .1)))
 
 -- A text that ends a line makes its records, and then what the rest makes from a new line on.
 pub line-ends : (bs : List ℕ) (m : Made) → ended m ≡ false → ended (readFrom bs m) ≡ true
