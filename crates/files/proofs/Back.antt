@@ -76,7 +76,7 @@ raw-line bytes h size t out room =
       given = [];
       line = bytes;
       now = _;
-      gives = raw-read bytes h (blankValues 0) out 15 (omega arith);
+      gives = raw-read bytes h (blankValues 0) out 15 (omega arith) (omega arith);
       stands = record { ends = raw-ends held (blankValues 0) 15; spoken = λ l. absurd (omega (arith, owed-none (recordOf bytes) t)) };
       same = refl;
     }
@@ -96,13 +96,13 @@ after-end gap text m s line bytes e begins =
     }
 
 -- What is left of a record is read back, and nothing comes after it.
-rest-back : (rest : List ℕ) → AreBytes rest → length rest ≤ 8224 → (out : List ℕ) → length out ≡ 8224 → composedFrom (restText rest) (made newDraft out) ≡ rest
+rest-back : (rest : List ℕ) → AreBytes rest → length rest ≤ 32 → (out : List ℕ) → length out ≡ 8224 → composedFrom (restText rest) (made newDraft out) ≡ rest
 rest-back rest h size out room =
     by-cases (eqb (length rest) 0)
     (λ t. rw t (nothing-more out room ∙ take-all 0 rest (omega (arith, eqb-true (length rest) 0 t))))
     (λ t.
-    let over = raw-ends (holds-bytes out rest room size) (blankValues 0) 15 in
-    rw t (raw-read rest h (blankValues 0) out 15 (omega arith) (10 ∷ []) ∙ over .gives [] ∙ rw (nothing-more (over .left) (over .size)) (append-nil rest)))
+    let over = raw-ends (holds-bytes out rest room (omega arith)) (blankValues 0) 15 in
+    rw t (raw-read rest h (blankValues 0) out 15 size (omega arith) (10 ∷ []) ∙ over .gives [] ∙ rw (nothing-more (over .left) (over .size)) (append-nil rest)))
 
 -- After a record's words a line is open that gives the record too.
 spoken-on : (text : List ℕ) (m : Made) (r : Record) (owed g s : ℕ) (out before : List ℕ) → InRange r → Holds s out before → s + 32 + 32 * owed ≤ 8224

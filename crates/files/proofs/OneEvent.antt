@@ -1,5 +1,6 @@
--- One event a line: its words make no record, one, or a request and bearers after it. The record that is being filled behind others is a
--- bearer, since only that word begins one there, and no word gives a record another kind but the one right after `kind`.
+-- One event a line: words make no record, one, or a request and bearers after it, and bytes are at most a record's. The record that is being
+-- filled behind others is a bearer, since only that word begins one there, and no word gives a record another kind but the one right after
+-- `kind`.
 use Prim.Native.Nat.{ℕ, suc, _+_, _*_, _≤_, _<_}
 use mathlib.Core.Path.{_≡_, refl, sym, _∙_, ap}
 use mathlib.Core.Bool.{true, false, _&&_, _||_, true≢false}
@@ -15,19 +16,24 @@ use Rattle.records.specs.declared.Record.{Record}
 use Rattle.text.specs.declared.compose.Draft.{Draft}
 use Rattle.text.specs.Composed.{Made, made, fields, limits, isSet, isGap, isPair, hexValue, recordFrom, takesBearer, mayBegin, lacksCount, newDraft, onDraft, put, begun, chosen, commented, stage, hex, counted, understood, settle, close, typed, step, readFrom, withWord, pushed}
 use Rattle.text.specs.Words.{placeOf}
-use Rattle.files.specs.Files.{OneEvent}
+use Rattle.files.specs.Files.{Records, OneEvent}
 use Rattle.files.proofs.Filling.{written-size, written-before, written-at}
 
 -- a line of words that goes on: the record that is being filled behind others is a bearer, and the first of them a request
 record Filling (m : Made) : Type 0 where
-  event : OneEvent (m .draft .staged) (m .out)
+  event : Records (m .draft .staged) (m .out)
   none : m .draft .mode ≡ 0 → m .draft .staged ≡ 0
   first : 1 ≤ m .draft .staged → getD (m .out) 0 0 ≡ 1
   kind : 1 ≤ m .draft .staged → getD (m .draft .values) 0 0 ≡ 16
   field : 1 ≤ m .draft .staged → 1 ≤ m .draft .field
 
-abbrev Open : Made → Type 0
-Open m = m .draft .mode ≤ 1 → Filling m
+-- a line of words or of bytes that goes on; nothing is said of one that is over
+record Open (m : Made) : Type 0 where
+  words : m .draft .mode ≤ 1 → Filling m
+  bytes : m .draft .mode ≡ 2 → m .draft .staged ≤ 32
+
+over : (m : Made) → 2 < m .draft .mode → Open m
+over m h = record { words = λ low. absurd (omega arith); bytes = λ two. absurd (omega arith) }
 
 -- ---- a record is written
 
@@ -42,7 +48,7 @@ module _ (r : Record) (out : List ℕ) (s : ℕ) (room : s + 32 ≤ length out) 
       ap (λ (i : ℕ). getD (writtenAt r out s) i 0) (sym none) ∙ written-at r out s room ∙ now none)
 
 -- One record more, which is the first or a bearer of a request.
-more : {out : List ℕ} {s : ℕ} (r : Record) → s + 32 ≤ length out → OneEvent s out → (1 ≤ s → (getD out 0 0 ≡ 1) × (r .kind ≡ 16)) → OneEvent (s + 32) (writtenAt r out s)
+more : {out : List ℕ} {s : ℕ} (r : Record) → s + 32 ≤ length out → Records s out → (1 ≤ s → (getD out 0 0 ≡ 1) × (r .kind ≡ 16)) → Records (s + 32) (writtenAt r out s)
 more {out} {s} r room e joins =
     record {
       count = suc (e .count);
@@ -65,16 +71,20 @@ put-open m n was =
     by-cases (leb (d .field) 14 && leb n (getD limits (d .field) 0))
     (λ t.
     rw t
-    (λ low.
-    let f = was low in
     record {
-      event = f .event;
-      none = f .none;
-      first = f .first;
-      kind = λ h. getD-set-other (d .values) (d .field) 0 _ 0 (λ same. omega (arith, f .field h)) ∙ f .kind h;
-      field = λ h. by-cases (isSet (d .field)) (λ u. rw u (f .field h)) (λ u. rw u (omega arith));
-    }))
-    (λ t. rw t (λ low. absurd (omega arith)))
+      words =
+          λ low.
+          let f = was .words low in
+          record {
+            event = f .event;
+            none = f .none;
+            first = f .first;
+            kind = λ h. getD-set-other (d .values) (d .field) 0 _ 0 (λ same. omega (arith, f .field h)) ∙ f .kind h;
+            field = λ h. by-cases (isSet (d .field)) (λ u. rw u (f .field h)) (λ u. rw u (omega arith));
+          };
+      bytes = was .bytes;
+    })
+    (λ t. rw t (over _ (omega arith)))
 
 -- No word of a field names the kind.
 named : (k : ℕ) → 17 < k → k ≤ 34 → 1 ≤ getD fields k 0
@@ -87,23 +97,31 @@ unfolding chosen
 chosen-open m k g h was =
     by-cases (eqb (m .draft .mode) 1)
     (λ t.
-    let f = was (omega (arith, eqb-true (m .draft .mode) 1 t)) in
-    rw t (λ low. record { event = f .event; none = λ z. omega arith; first = f .first; kind = f .kind; field = λ l. named k g h }))
-    (λ t. rw t (λ low. absurd (omega arith)))
+    let f = was .words (omega (arith, eqb-true (m .draft .mode) 1 t)) in
+    rw t
+    record {
+      words = λ low. record { event = f .event; none = λ z. omega arith; first = f .first; kind = f .kind; field = λ l. named k g h };
+      bytes = λ two. absurd (omega arith);
+    })
+    (λ t. rw t (over _ (omega arith)))
 
 -- A kind's word stands first, or it is a bearer's behind its request.
 begun-first : (m : Made) (k : ℕ) → m .draft .mode ≡ 0 → Open m → Open (onDraft (λ d. begun d k) (stage m))
 unfolding begun stage
 begun-first m k z was =
-    let f = was (omega (arith, z)) in
+    let f = was .words (omega (arith, z)) in
     let s : m .draft .staged ≡ 0 = f .none z in
-    rw z (λ low. record { event = f .event; none = λ o. omega arith; first = λ l. omega arith; kind = λ l. omega arith; field = λ l. omega arith })
+    rw z
+    record {
+      words = λ low. record { event = f .event; none = λ o. omega arith; first = λ l. omega arith; kind = λ l. omega arith; field = λ l. omega arith };
+      bytes = λ two. absurd (omega arith);
+    }
 
 begun-bearer : (m : Made) → m .draft .mode ≡ 1 → takesBearer (m .draft) ≡ true → Open m → Open (onDraft (λ d. begun d 16) (stage m))
 unfolding begun stage
 begun-bearer m o t was =
     let d = m .draft in
-    let f = was (omega (arith, o)) in
+    let f = was .words (omega (arith, o)) in
     by-cases (roomAt (m .out) (d .staged))
     (λ u.
     let room : d .staged + 32 ≤ length (m .out) = leb-true (d .staged + 32) (length (m .out)) u in
@@ -111,11 +129,15 @@ begun-bearer m o t was =
     let lead : getD (writtenAt r (m .out) (d .staged)) 0 0 ≡ 1 =
     written-first r (m .out) (d .staged) room (f .first) (λ none. let one : getD (d .values) 0 0 ≡ 1 = eqb-true (getD (d .values) 0 0) 1 (rw none at t) in rw one)
     in
-    let grown : OneEvent (d .staged + 32) (writtenAt r (m .out) (d .staged)) =
+    let grown : Records (d .staged + 32) (writtenAt r (m .out) (d .staged)) =
     more r room (f .event) (λ h. (f .first h, rw (f .kind h)))
     in
-    rw (o, u) (λ low. record { event = rw u at grown; none = λ z. omega arith; first = λ l. rw u at lead; kind = λ l. refl; field = λ l. omega arith }))
-    (λ u. rw (o, u) (λ low. absurd (omega arith)))
+    rw (o, u)
+    record {
+      words = λ low. record { event = rw u at grown; none = λ z. omega arith; first = λ l. rw u at lead; kind = λ l. refl; field = λ l. omega arith };
+      bytes = λ two. absurd (omega arith);
+    })
+    (λ u. rw (o, u) (over _ (omega arith)))
 
 begins : (m : Made) (k : ℕ) → mayBegin (m .draft) k ≡ true → Open m → Open (onDraft (λ d. begun d k) (stage m))
 begins m k u was =
@@ -131,7 +153,7 @@ understood-open : (m : Made) (k : ℕ) → Open m → Open (understood m k)
 unfolding understood
 understood-open m k was =
     by-cases (leb k 17)
-    (λ t. by-cases (mayBegin (m .draft) k) (λ u. rw (t, u) (begins m k u was)) (λ u. rw (t, u) (λ low. absurd (omega arith))))
+    (λ t. by-cases (mayBegin (m .draft) k) (λ u. rw (t, u) (begins m k u was)) (λ u. rw (t, u) (over _ (omega arith))))
     (λ t.
     let g : 17 < k = leb-false k 17 t in
     by-cases (leb k 34)
@@ -139,15 +161,25 @@ understood-open m k was =
     (λ u.
     by-cases (eqb k 35)
     (λ v. rw (t, u, v) (put-open m 65535 was))
-    (λ v. by-cases (eqb k 36 && eqb (m .draft .mode) 0) (λ w. rw (t, u, v, w) (λ low. absurd (omega arith))) (λ w. rw (t, u, v, w) (λ low. absurd (omega arith))))))
+    (λ v.
+    by-cases (eqb k 36 && eqb (m .draft .mode) 0)
+    (λ w.
+    let new = eqb-true (m .draft .mode) 0 (both-true (eqb k 36) (eqb (m .draft .mode) 0) w .1) in
+    rw (t, u, v, w) record { words = λ low. absurd (omega arith); bytes = λ two. omega (arith, was .words (omega (arith, new)) .none new) })
+    (λ w. rw (t, u, v, w) (over _ (omega arith))))))
 
--- Where bytes are written, they go on.
+-- One byte more is taken where there were fewer than a record has.
 hex-open : (m : Made) → m .draft .mode ≡ 2 → Open (hex m)
 unfolding hex
 hex-open m two =
-    by-cases (leb (hexValue (m .draft .word)) 255)
-    (λ t. by-cases (leb (length (m .out)) (m .draft .staged)) (λ u. rw (t, u) (λ low. absurd (omega arith))) (λ u. rw (t, u) (λ low. absurd (omega (arith, two)))))
-    (λ t. rw t (λ low. absurd (omega arith)))
+    let byte = leb (hexValue (m .draft .word)) 255 in
+    let few = leb (m .draft .staged) 31 in
+    by-cases (byte && few)
+    (λ t.
+    by-cases (leb (length (m .out)) (m .draft .staged))
+    (λ u. rw (t, u) (over _ (omega arith)))
+    (λ u. rw (t, u) record { words = λ low. absurd (omega (arith, two)); bytes = λ _. omega (arith, leb-true (m .draft .staged) 31 (both-true byte few t .1)) }))
+    (λ t. rw t (over _ (omega arith)))
 
 settle-open : (m : Made) → Open m → Open (settle m)
 unfolding settle
@@ -171,52 +203,54 @@ settle-open m was =
 untouched : (out : List ℕ) (x y j : ℕ) → (j ≡ 12 → ⊥) → (j ≡ 13 → ⊥) → getD (set (set out 12 x) 13 y) j 0 ≡ getD out j 0
 untouched out x y j a b = getD-set-other (set out 12 x) 13 j y 0 b ∙ getD-set-other out 12 j x 0 a
 
-counted-event : (m : Made) → OneEvent (m .draft .staged) (m .out) → OneEvent (counted m .draft .staged) (counted m .out)
+counted-event : (m : Made) → OneEvent m → OneEvent (counted m)
 unfolding counted
 counted-event m e =
     by-cases (lacksCount (m .draft) (m .out))
     (λ t.
     rw t
     record {
-      count = e .count;
-      whole = e .whole;
-      within = rw (length-set, length-set) (e .within);
-      request = λ h. untouched (m .out) _ _ 0 (λ s. omega arith) (λ s. omega arith) ∙ e .request h;
-      bearers = λ i h l. untouched (m .out) _ _ (32 * i) (λ s. omega arith) (λ s. omega arith) ∙ e .bearers i h l;
+      words =
+          λ low.
+          let r = e .words low in
+          record {
+            count = r .count;
+            whole = r .whole;
+            within = rw (length-set, length-set) (r .within);
+            request = λ h. untouched (m .out) _ _ 0 (λ s. omega arith) (λ s. omega arith) ∙ r .request h;
+            bearers = λ i h l. untouched (m .out) _ _ (32 * i) (λ s. omega arith) (λ s. omega arith) ∙ r .bearers i h l;
+          };
+      bytes = e .bytes;
     })
     (λ t. rw t e)
 
-counted-draft : (m : Made) → counted m .draft ≡ m .draft
-unfolding counted
-counted-draft m = by-cases (lacksCount (m .draft) (m .out)) (λ t. rw t) (λ t. rw t)
-
-staged-event : (m : Made) → Open m → stage m .draft .mode ≤ 1 → OneEvent (stage m .draft .staged) (stage m .out)
+staged-event : (m : Made) → Open m → OneEvent (stage m)
 unfolding stage
 staged-event m was =
     let d = m .draft in
     by-cases (eqb (d .mode) 1)
     (λ t.
+    let one = eqb-true (d .mode) 1 t in
     by-cases (roomAt (m .out) (d .staged))
     (λ u.
-    rw (t, u)
-    (λ low.
-    let f = was low in
-    rw u at (more (recordFrom (d .values)) (leb-true (d .staged + 32) (length (m .out)) u) (f .event) (λ h. (f .first h, rw (f .kind h))))))
-    (λ u. rw (t, u) (λ low. absurd (omega arith))))
-    (λ t. rw t (λ low. was low .event))
+    let f = was .words (omega (arith, one)) in
+    let grown = more (recordFrom (d .values)) (leb-true (d .staged + 32) (length (m .out)) u) (f .event) (λ h. (f .first h, rw (f .kind h))) in
+    rw (t, u) record { words = λ low. rw u at grown; bytes = λ two. absurd (omega (arith, one)) })
+    (λ u. rw (t, u) record { words = λ low. absurd (omega arith); bytes = λ two. absurd (omega arith) }))
+    (λ t. rw t record { words = λ low. was .words low .event; bytes = was .bytes })
 
-closed-event : (m : Made) → Open m → close m .draft .mode ≤ 1 → OneEvent (close m .draft .staged) (close m .out)
+closed-event : (m : Made) → Open m → OneEvent (close m)
 unfolding close
 closed-event m was =
     by-cases (leb (m .draft .mode) 2)
+    (λ t. rw t (counted-event (stage (settle m)) (staged-event (settle m) (settle-open m was))))
     (λ t.
-    let last = stage (settle m) in
-    rw t (λ low. counted-event last (staged-event (settle m) (settle-open m was) (rw (counted-draft last) at low))))
-    (λ t. rw t (λ low. absurd (omega (arith, leb-false (m .draft .mode) 2 t))))
+    let high = leb-false (m .draft .mode) 2 t in
+    rw t record { words = λ low. absurd (omega (arith, high)); bytes = λ two. absurd (omega (arith, high)) })
 
-commented-high : (d : Draft) → 1 < commented d .mode
-commented-high d =
-    by-cases (leb (d .mode) 2) (λ t. rw t (omega arith)) (λ t. rw t (omega (arith, leb-false (d .mode) 2 t)))
+commented-over : (d : Draft) → 2 < commented d .mode
+commented-over d =
+    by-cases (leb (d .mode) 2) (λ t. rw t (omega arith)) (λ t. rw t (leb-false (d .mode) 2 t))
 
 typed-open : (m : Made) (b : ℕ) → Open m → Open (typed m b)
 unfolding typed
@@ -224,7 +258,12 @@ typed-open m b was =
     let next = onDraft (λ d. withWord d (pushed (d .word) b)) m in
     by-cases (isPair (next .draft))
     (λ t. rw t (hex-open next (eqb-true (m .draft .mode) 2 (both-true (eqb (m .draft .mode) 2) _ t .0))))
-    (λ t. rw t (λ low. let f = was low in record { event = f .event; none = f .none; first = f .first; kind = f .kind; field = f .field }))
+    (λ t.
+    rw t
+    record {
+      words = λ low. let f = was .words low in record { event = f .event; none = f .none; first = f .first; kind = f .kind; field = f .field };
+      bytes = was .bytes;
+    })
 
 stepped : (m : Made) (b : ℕ) → Open m → step m b .draft .ended ≡ false → Open (step m b)
 unfolding step
@@ -235,7 +274,7 @@ stepped m b was =
     by-cases (leb (m .draft .mode) 2)
     (λ u.
     by-cases (eqb b 35)
-    (λ v. rw (t, u, v) (λ going low. absurd (omega (arith, commented-high (close m .draft)))))
+    (λ v. rw (t, u, v) (λ going. over _ (commented-over (close m .draft))))
     (λ v. by-cases (isGap b) (λ w. rw (t, u, v, w) (λ going. settle-open m was)) (λ w. rw (t, u, v, w) (λ going. typed-open m b was))))
     (λ u. rw (t, u) (λ going. was)))
 
@@ -250,11 +289,12 @@ reading (b ∷ bs) m r =
     (λ t. rw (on-true (m .draft .ended) m (readFrom bs (step m b)) t) r)
     (λ t. rw (on-false (m .draft .ended) m (readFrom bs (step m b)) t) (reading bs (step m b) (stepped m b (r t))))
 
--- Whatever stands in a line, once it is closed, by a line feed or by a comment, it makes one event, unless it is a line of bytes.
-pub one-event : (text out : List ℕ) → let m = readFrom text (made newDraft out) in m .draft .ended ≡ false → close m .draft .mode ≤ 1 → OneEvent (close m .draft .staged) (close m .out)
+-- Whatever stands in a line, once it is closed, by a line feed or by a comment, it makes one event.
+pub one-event : (text out : List ℕ) → let m = readFrom text (made newDraft out) in m .draft .ended ≡ false → OneEvent (close m)
 one-event text out going =
-    let none : OneEvent 0 out = record { count = 0; whole = refl; within = omega arith; request = λ h. absurd (omega arith); bearers = λ i h l. absurd (omega arith) } in
+    let none : Records 0 out = record { count = 0; whole = refl; within = omega arith; request = λ h. absurd (omega arith); bearers = λ i h l. absurd (omega arith) } in
     let empty : Filling (made newDraft out) =
     record { event = none; none = λ z. refl; first = λ h. absurd (omega arith); kind = λ h. absurd (omega arith); field = λ h. omega arith }
     in
-    closed-event (readFrom text (made newDraft out)) (reading text (made newDraft out) (λ e low. empty) going)
+    let start : Open (made newDraft out) = record { words = λ low. empty; bytes = λ two. absurd (omega arith) } in
+    closed-event (readFrom text (made newDraft out)) (reading text (made newDraft out) (λ e. start) going)

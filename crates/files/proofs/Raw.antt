@@ -39,9 +39,9 @@ pair-back b h =
     rw (digit-back (b / 16) (omega arith), digit-back (b % 16) (omega arith), le-leb (b / 16) 15 (omega arith), le-leb (b % 16) 15 (omega arith)) (omega arith)
 
 -- One byte is read behind those that stand in the buffer.
-byte-read : (b : ℕ) → b < 256 → (v : List ℕ) (f s : ℕ) (out : List ℕ) → s < length out
+byte-read : (b : ℕ) → b < 256 → (v : List ℕ) (f s : ℕ) (out : List ℕ) → s < 32 → s < length out
     → Leads (hexDigit (b / 16) ∷ hexDigit (b % 16) ∷ []) (resting v f 2 s out) (resting v f 2 (s + 1) (set out s b))
-byte-read b h v f s out room =
+byte-read b h v f s out few room =
     let high = hexDigit (b / 16) in
     let low = hexDigit (b % 16) in
     let empty = resting v f 2 s out in
@@ -53,24 +53,24 @@ byte-read b h v f s out room =
     step-typed empty high half (λ e. omega arith) (omega arith) (λ e. omega arith) (no-gap high past) (typed-on empty high (half .draft) refl refl)
     in
     let stored : resting v f 2 (s + 1) (set out s b) ≡ hex full =
-    hex-on full b (resting v f 2 (s + 1) out .draft) (sym (pair-back b h)) (omega arith) room refl
+    hex-on full b (resting v f 2 (s + 1) out .draft) (sym (pair-back b h)) (rw (le-leb b 255 (omega arith), le-leb s 31 (omega arith))) room refl
     in
     let second : resting v f 2 (s + 1) (set out s b) ≡ step half low =
     step-typed half low _ (λ e. omega arith) (omega arith) (λ e. omega arith) (no-gap low past′) (typed-pair half low (full .draft) _ refl refl stored)
     in
     leads-on (high ∷ []) (low ∷ []) empty half _ (leads-to empty half high first refl) (leads-to half _ low second refl)
 
--- So are all bytes.
-bytes-read : (bytes : List ℕ) → AreBytes bytes → (v : List ℕ) (f s : ℕ) (out : List ℕ) → s + length bytes ≤ length out
+-- So are all bytes of a record or of a piece of one.
+bytes-read : (bytes : List ℕ) → AreBytes bytes → (v : List ℕ) (f s : ℕ) (out : List ℕ) → s + length bytes ≤ 32 → s + length bytes ≤ length out
     → Leads (bytesText bytes) (resting v f 2 s out) (resting v f 2 (s + length bytes) (sets out s bytes))
 unfolding bytesText
-bytes-read [] h v f s out room = λ rest. ap (λ (k : ℕ). composedFrom rest (resting v f 2 k out)) (omega arith)
-bytes-read (b ∷ bytes) h v f s out room = λ rest.
+bytes-read [] h v f s out few room = λ rest. ap (λ (k : ℕ). composedFrom rest (resting v f 2 k out)) (omega arith)
+bytes-read (b ∷ bytes) h v f s out few room = λ rest.
     let end : s + suc (length bytes) ≡ suc s + length bytes = omega arith in
     let one : composedFrom (bytesText (b ∷ bytes) ++ rest) (resting v f 2 s out) ≡ composedFrom (bytesText bytes ++ rest) (resting v f 2 (suc s) (set out s b)) =
-    byte-read b (h 0) v f s out (omega arith) (bytesText bytes ++ rest) ∙ rw (add-one s)
+    byte-read b (h 0) v f s out (omega arith) (omega arith) (bytesText bytes ++ rest) ∙ rw (add-one s)
     in
-    rw end (one ∙ bytes-read bytes (λ i. h (suc i)) v f (suc s) (set out s b) (rw length-set (omega arith)) rest)
+    rw end (one ∙ bytes-read bytes (λ i. h (suc i)) v f (suc s) (set out s b) (omega arith) (rw length-set (omega arith)) rest)
 
 -- The word before them makes a new line one of bytes.
 raw-word : (v out : List ℕ) (f : ℕ) → Leads (wordAt 36 ++ (32 ∷ [])) (resting v f 0 0 out) (resting v 15 2 0 out)
@@ -78,8 +78,8 @@ unfolding composedFrom step typed settle understood wordAt trimmed isSame placeI
 raw-word v out f rest = refl
 
 -- A new line takes the bytes of such a text to the front of the buffer.
-pub raw-read : (bytes : List ℕ) → AreBytes bytes → (v out : List ℕ) (f : ℕ) → length bytes ≤ length out
+pub raw-read : (bytes : List ℕ) → AreBytes bytes → (v out : List ℕ) (f : ℕ) → length bytes ≤ 32 → length bytes ≤ length out
     → Leads (rawText bytes) (resting v f 0 0 out) (resting v 15 2 (length bytes) (sets out 0 bytes))
 unfolding wordAt trimmed
-raw-read bytes h v out f room rest =
-    raw-word v out f (bytesText bytes ++ rest) ∙ rw zero-add at (bytes-read bytes h v 15 0 out (omega arith) rest)
+raw-read bytes h v out f few room rest =
+    raw-word v out f (bytesText bytes ++ rest) ∙ rw zero-add at (bytes-read bytes h v 15 0 out (omega arith) (omega arith) rest)

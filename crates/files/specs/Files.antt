@@ -37,10 +37,15 @@ composedFrom (b ∷ bs) m =
 abbrev pub composedIn : List ℕ → List ℕ → List ℕ
 composedIn out text = composedFrom text (made newDraft out)
 
--- "one event a line": so many records, those after the first being bearers, and the first then a request
-pub record OneEvent (staged : ℕ) (out : List ℕ) : Type 0 where
+-- so many records, those after the first being bearers, and the first then a request
+pub record Records (staged : ℕ) (out : List ℕ) : Type 0 where
   pub count : ℕ
   pub whole : staged ≡ 32 * count
   pub within : staged ≤ length out
   pub request : 2 ≤ count → getD out 0 0 ≡ 1
   pub bearers : (i : ℕ) → 1 ≤ i → i < count → getD out (32 * i) 0 ≡ 16
+
+-- "one event a line": words make such records, and bytes a record or a piece of one
+pub record OneEvent (m : Made) : Type 0 where
+  pub words : m .draft .mode ≤ 1 → Records (m .draft .staged) (m .out)
+  pub bytes : m .draft .mode ≡ 2 → m .draft .staged ≤ 32

@@ -99,17 +99,21 @@ module _ (m : Made) where
 
 -- a byte of two hexadecimal digits
 module _ (m : Made) (value : ℕ) (e : Draft) (v : value ≡ hexValue (m .draft .word)) where
-  pub hex-wrong : 255 < value → e ≡ wrong (m .draft) → made e (m .out) ≡ hex m
-  unfolding hex
-  hex-wrong h b = rw (sym v, lt-leb value 255 h, b)
+  -- whether it is one, and a record has room for it
+  abbrev fits : Bool
+  fits = leb value 255 && leb (m .draft .staged) 31
 
-  pub hex-long : value ≤ 255 → length (m .out) ≤ m .draft .staged → e ≡ tooLong (m .draft) → made e (m .out) ≡ hex m
+  pub hex-wrong : fits ≡ false → e ≡ wrong (m .draft) → made e (m .out) ≡ hex m
   unfolding hex
-  hex-long h i b = rw (sym v, le-leb value 255 h, le-leb (length (m .out)) (m .draft .staged) i, b)
+  hex-wrong t b = rw (sym v, t, b)
 
-  pub hex-on : value ≤ 255 → m .draft .staged < length (m .out) → e ≡ appended (m .draft) → made e (set (m .out) (m .draft .staged) value) ≡ hex m
+  pub hex-long : fits ≡ true → length (m .out) ≤ m .draft .staged → e ≡ tooLong (m .draft) → made e (m .out) ≡ hex m
   unfolding hex
-  hex-on h i b = rw (sym v, le-leb value 255 h, lt-leb (length (m .out)) (m .draft .staged) i, b)
+  hex-long t i b = rw (sym v, t, le-leb (length (m .out)) (m .draft .staged) i, b)
+
+  pub hex-on : fits ≡ true → m .draft .staged < length (m .out) → e ≡ appended (m .draft) → made e (set (m .out) (m .draft .staged) value) ≡ hex m
+  unfolding hex
+  hex-on t i b = rw (sym v, t, lt-leb (length (m .out)) (m .draft .staged) i, b)
 
 -- the second of seven tests that hold together
 second : (a b c d e f g : Bool) → (a && b && c && d && e && f && g) ≡ true → b ≡ true

@@ -189,12 +189,13 @@ hexValue w =
 abbrev pub appended : Draft → Draft
 appended d = withWord (stagedBy d 1) emptyWord
 
--- such a word is a byte behind those that stand in the buffer
+-- such a word is a byte behind those that stand in the buffer: "64 hex digits writes any record, a shorter even number of digits a short
+-- piece", and one more is not understood
 unfoldable pub hex : Made → Made
 hex m =
     let d = m .draft in
     let value = hexValue (d .word) in
-    cond (leb value 255)
+    cond (leb value 255 && leb (d .staged) 31)
     (cond (leb (length (m .out)) (d .staged)) (onDraft tooLong m) (made (appended d) (set (m .out) (d .staged) value)))
     (onDraft wrong m)
 

@@ -371,14 +371,14 @@ fn appended(d: Draft) -> Draft
     }
 }
 
-// A word of two hexadecimal digits is a byte behind those that stand in the buffer.
+// A word of two hexadecimal digits is a byte behind those that stand in the buffer, where a record has room for it.
 fn hex(d: Draft, out: &mut [u8]) -> Draft
     ensures { λ r. ⌜ made r (now (out .exit)) ≡ hex (made d (now (out .entry))) ⌝ }
 {
     let w = d.word;
     let at = d.staged;
     let value = hex_value(w);
-    if 255 < value {
+    if !((value <= 255) & (at <= 31)) {
         return wrong(d);
     }
     if out.len() <= at {

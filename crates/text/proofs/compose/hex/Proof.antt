@@ -1,4 +1,8 @@
--- The three ends of a pair of digits: no pair, no room, a byte.
+-- The three ends of a pair of digits: no pair or one too many, no room, a byte.
+use Prim.Native.Nat.{_≤_}
+use borrow.Author.Tests.{leb-true, not-true, not-false}
+use lib.Dec.{leb}
+use Rattle.laws.proofs.Tests.{both-true}
 use Rattle.text.specs.Composed.{made}
 use Rattle.text.proofs.Machine.{hex-wrong, hex-long, hex-on}
 use borrow.Author.Needs.{needs}
@@ -14,7 +18,7 @@ wrong-requires c κs = search needs
 returns : tie.Need-returns
 returns c =
     let start = c .before .before .before .before .before .args in
-    hex-wrong (made (start .d) (start .out .now)) _ _ (c .before .before .hex-value .ensures) (c .before .if1 .taken) (c .wrong .ensures)
+    hex-wrong (made (start .d) (start .out .now)) _ _ (c .before .before .hex-value .ensures) (not-true _ (c .before .if1 .taken)) (c .wrong .ensures)
 
 too-long-requires : tie.Need-too-long-requires
 too-long-requires c κs = search needs
@@ -22,10 +26,13 @@ too-long-requires c κs = search needs
 returns-2 : tie.Need-returns-2
 returns-2 c =
     let start = c .before .before .before .before .before .before .args in
-    hex-long (made (start .d) (start .out .now)) _ _ (c .before .before .before .hex-value .ensures) (c .before .before .if1 .left) (c .before .if2 .taken) (c .too-long .ensures)
+    hex-long (made (start .d) (start .out .now)) _ _ (c .before .before .before .hex-value .ensures) (not-false _ (c .before .before .if1 .left)) (c .before .if2 .taken) (c .too-long .ensures)
 
 cast-out : tie.Need-cast-out
-cast-out c = search needs
+cast-out c =
+    let value = c .before .before .hex-value .result in
+    let small : value ≤ 255 = leb-true value 255 (both-true (leb value 255) _ (not-false _ (c .before .if1 .left)) .0) in
+    search (needs, small)
 
 slice-write-out : tie.Need-slice-write-out
 slice-write-out c = search needs
@@ -39,7 +46,7 @@ same-length c = search needs
 returns-3 : tie.Need-returns-3
 returns-3 c =
     let start = c .before .before .before .before .before .before .args in
-    hex-on (made (start .d) (start .out .now)) _ _ (c .before .before .before .hex-value .ensures) (c .before .before .if1 .left) (c .before .if2 .left) (c .appended .ensures)
+    hex-on (made (start .d) (start .out .now)) _ _ (c .before .before .before .hex-value .ensures) (not-false _ (c .before .before .if1 .left)) (c .before .if2 .left) (c .appended .ensures)
 
 pub hex-spec : {M : Type 1} → statement M
 hex-spec =
