@@ -14,10 +14,10 @@ use Rattle.laws.specs.Sums.{total}
 use Rattle.laws.proofs.Tests.{by-cases}
 use Rattle.bearers.specs.declared.Bearer.{Bearer}
 use Rattle.bearers.specs.Admission.{occurs, standing, hasTurn, turns, verdict, admitted, idsOf}
-use Rattle.bearers.specs.Sets.{member, among, setOf}
+use Rattle.sets.specs.Sets.{member, among, setOf}
 use Rattle.bearers.proofs.Granted.{Distinct, distinct-first, distinct-rest, units, granted, granted-le, granted-total, zero-means, turn-once, fits}
 use Rattle.bearers.proofs.Listing.{Formed}
-use Rattle.bearers.proofs.Membership.{same-members, member-setOf, ones-add, ones-none}
+use Rattle.sets.proofs.Membership.{same-members, member-setOf, ones-add, ones-none}
 use Rattle.bearers.proofs.Sums.{Each, total-those, once, once-own, each-here}
 
 -- An ID is among those of some bearers exactly if it occurs.

@@ -14,7 +14,7 @@ use Rattle.bearers.specs.declared.Survey.{Survey}
 use Rattle.bearers.specs.Admission.{those, occurs, idsOf}
 use Rattle.bearers.specs.Working.{alone, Surveyed, firstsOf}
 use Rattle.bearers.proofs.Admitted.{member-ids}
-use Rattle.bearers.proofs.Membership.{same-members}
+use Rattle.sets.proofs.Membership.{same-members}
 use Rattle.bearers.proofs.Sums.{total-those, once, once-other, occurs-those}
 
 module _ (bs : List Bearer) (s : Survey) (known : Surveyed bs s) where

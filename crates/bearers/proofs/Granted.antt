@@ -13,10 +13,10 @@ use Rattle.laws.proofs.Tests.{by-cases, both-true, refuted}
 use Rattle.bearers.specs.declared.Bearer.{Bearer}
 use Rattle.bearers.specs.declared.Grants.{Grants}
 use Rattle.bearers.specs.Admission.{those, occurs, hasTurn, turns, after, freeAt, verdict, admitted, idsOf}
-use Rattle.bearers.specs.Sets.{add, union, setOf}
+use Rattle.sets.specs.Sets.{add, union, setOf}
 use Rattle.bearers.specs.Working.{run}
 use Rattle.bearers.proofs.Listing.{Formed}
-use Rattle.bearers.proofs.Membership.{union-slide}
+use Rattle.sets.proofs.Membership.{union-slide}
 use Rattle.bearers.proofs.Sums.{Each, total-same, total-those, those-le, those-same, once, once-own, occurs-those, total-turns, within}
 
 -- ---- the walk

@@ -13,12 +13,12 @@ use Rattle.laws.specs.Sums.{total}
 use Rattle.laws.proofs.Tests.{by-cases, both-true}
 use Rattle.bearers.specs.declared.Bearer.{Bearer}
 use Rattle.bearers.specs.Admission.{those, occurs, standing, hasTurn, turns, freeAt, verdict, admitted, refused, idsOf}
-use Rattle.bearers.specs.Sets.{member, union, disjoint}
+use Rattle.sets.specs.Sets.{member, union, disjoint}
 use Rattle.bearers.specs.Working.{sorted}
 use Rattle.bearers.proofs.Admitted.{member-ids, member-absent, ones-ids, admitted-le, granted-ids, verdict-member}
 use Rattle.bearers.proofs.Granted.{units, fits, granted, turn-once, no-turn, zero-means, zero-turn, those-repeated, those-distinct}
 use Rattle.bearers.proofs.Listing.{Formed}
-use Rattle.bearers.proofs.Membership.{same-members, member-union, disjoint-means}
+use Rattle.sets.proofs.Membership.{same-members, member-union, disjoint-means}
 use Rattle.bearers.proofs.Sorting.{turns-sorted}
 use Rattle.bearers.proofs.Sums.{Each, total-those, those-others, once, each-those, each-here, each-split, each-occurs}
 use Rattle.bearers.proofs.Without.{without-split, others, verdict-without}

@@ -6,7 +6,6 @@ pub mod Judging
 pub mod Laws
 pub mod Listing
 pub mod Looking
-pub mod Membership
 pub mod Once
 pub mod Placing
 pub mod Sorting

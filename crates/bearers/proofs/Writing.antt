@@ -13,9 +13,9 @@ use Rattle.laws.proofs.Tests.{by-cases}
 use Rattle.bearers.specs.declared.Bearer.{Bearer}
 use Rattle.bearers.specs.declared.Survey.{Survey}
 use Rattle.bearers.specs.Admission.{those, idsOf}
-use Rattle.bearers.specs.Sets.{add, union, setOf}
+use Rattle.sets.specs.Sets.{add, union, setOf}
 use Rattle.bearers.specs.Working.{Tidy, firstsOf, written}
-use Rattle.bearers.proofs.Membership.{union-slide}
+use Rattle.sets.proofs.Membership.{union-slide}
 use Rattle.bearers.proofs.Turns.{firsts-cons}
 
 -- One verdict more.

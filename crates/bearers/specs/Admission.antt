@@ -12,7 +12,7 @@ use Rattle.bearers.specs.declared.Bearer.{Bearer}
 use Rattle.bearers.specs.declared.Judgement.{Judgement}
 use Rattle.bearers.specs.declared.Judgement.the-variants.{Given, Malformed}
 use Rattle.bearers.specs.Bearer.{recordsIn, bearersIn, allBearers}
-use Rattle.bearers.specs.Sets.{setOf}
+use Rattle.sets.specs.Sets.{setOf}
 
 -- the bearers that pass a test, in their order
 unfoldable pub those : (Bearer → Bool) → List Bearer → List Bearer

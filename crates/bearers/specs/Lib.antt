@@ -1,4 +1,3 @@
-pub mod Sets
 pub mod Bearer
 pub mod Admission
 pub mod Working

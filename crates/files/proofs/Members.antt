@@ -9,8 +9,8 @@ use lib.Dec.{ltb, eqb}
 use lib.ListN.{length, getD}
 use lib.Seq.{set-at, getD-at}
 use Rattle.laws.proofs.Tests.{by-cases}
-use Rattle.bearers.specs.Sets.{member, add}
-use Rattle.bearers.proofs.Membership.{member-add, member-none, member-beyond, add-fits, same-members}
+use Rattle.sets.specs.Sets.{member, add}
+use Rattle.sets.proofs.Membership.{member-add, member-none, member-beyond, add-fits, same-members}
 use Rattle.lines.specs.Text.{size, digits}
 use Rattle.text.specs.Shown.{numberText, idText, idsText}
 use Rattle.text.specs.Composed.{isSet, limits, Made}

@@ -7,8 +7,8 @@ use Rattle.records.specs.Record.{little, recordOf}
 use Rattle.records.specs.Stream as stream
 use Rattle.bearers.specs.Bearer.{recordsIn, allBearers}
 use Rattle.bearers.specs.Admission.{those, turnsFrom, freeAt, verdict}
-use Rattle.bearers.specs.Sets as sets
-use Rattle.table.specs.Numbers.{anyOf, issueFrom}
+use Rattle.sets.specs.Sets as sets
+use Rattle.handover.specs.Numbers.{anyOf, issueFrom}
 use Rattle.table.specs.Table.{findFrom, dueFrom}
 use Rattle.lines.specs.Lines.{newRun, linesIn, linesOf}
 use Rattle.lines.specs.Text.{sizeIn, digits, spaced}

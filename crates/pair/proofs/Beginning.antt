@@ -7,8 +7,8 @@ use mathlib.Core.Logic.{inl, inr, _⊎_}
 use native.Mathlib.Omega.{arith}
 use Rattle.table.specs.declared.Station.{Station}
 use Rattle.table.specs.Reached.{Reached, born}
-use Rattle.table.specs.Views.{count, times, ids, someOut, someHeld, out, held}
-use Rattle.table.proofs.Interface.{fresh, laws}
+use Rattle.promises.specs.Views.{count, times, ids, someOut, someHeld, out, held}
+use Rattle.promises.proofs.Interface.{fresh, laws}
 use Rattle.pair.specs.World.{Side, nothing, other, start, Fresh}
 use Rattle.pair.proofs.Lists.{no-pair}
 use Rattle.pair.proofs.Directions.{direction}

@@ -7,7 +7,7 @@ use mathlib.Core.Option.{Option}
 use Rattle.records.specs.declared.Record.{Record}
 use Rattle.table.specs.declared.Answer.{Answer}
 use Rattle.table.specs.declared.Station.{Station}
-use Rattle.table.specs.Views.{issued, Laws, StepLaws}
+use Rattle.promises.specs.Views.{issued, Laws, StepLaws}
 use Rattle.pair.specs.World.{Side, other, Numbers, nextIssue, Handover, Envelope, World, issuing, atSource, atTarget, fixing, letter, posted, Comes, All, Recent}
 
 -- The source and the number under which it knows the target, the target and the number under which it knows the source, the messages to

@@ -6,8 +6,8 @@ use mathlib.Core.Bool.{Bool, true, _||_}
 use mathlib.Core.List.{[], _∷_}
 use mathlib.Core.Logic.{_⊎_, _↔_}
 use lib.Dec.{eqb}
-use Rattle.table.specs.Events.{message}
-use Rattle.table.specs.Views.{Outgoing, Prepared, Incoming, Held, someOut, out, held, isOtherEnding}
+use Rattle.handover.specs.Events.{message}
+use Rattle.promises.specs.Views.{Outgoing, Prepared, Incoming, Held, someOut, out, held, isOtherEnding}
 use Rattle.pair.specs.World.{Side, Answered, Silent, Refused, Fixed, untold, Envelope, recordOf, All, limit}
 use Rattle.pair.proofs.Lists.{Pairs}
 use Rattle.pair.proofs.Ledger.{UsedOf, IssuedOf, LedgerOf}

@@ -8,8 +8,8 @@ use native.Mathlib.Omega.{arith}
 use Rattle.laws.proofs.Tests.{both-true}
 use Rattle.records.specs.Record.{InRange}
 use Rattle.records.specs.declared.Record.{Record}
-use Rattle.table.specs.Events.{message}
-use Rattle.table.specs.Views.{Prepared, out}
+use Rattle.handover.specs.Events.{message}
+use Rattle.promises.specs.Views.{Prepared, out}
 use Rattle.pair.specs.Theorem.{AsFixed, Settled, AtRest}
 use Rattle.pair.specs.World.{Side, A, B, Refused, Fixed, Handover, Envelope, World, Bounded, Run, withQueue}
 use Rattle.pair.proofs.Runs.{peer, both, history, fresh, starts, grants, answered, unanswered, arrives}

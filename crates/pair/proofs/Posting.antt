@@ -7,7 +7,7 @@ use borrow.Author.Tests.{eq-eqb}
 use lib.Dec.{leb, eqb}
 use Rattle.laws.proofs.Tests.{by-cases, both-true}
 use Rattle.table.specs.declared.Answer.{Answer}
-use Rattle.table.specs.Views.{sent, to}
+use Rattle.promises.specs.Views.{sent, to}
 use Rattle.pair.specs.World.{Envelope, isMessage, posted, All, nothing, more}
 use Rattle.pair.proofs.Lists.{Pairs, all-append, pairs-append}
 

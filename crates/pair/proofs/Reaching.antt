@@ -5,11 +5,11 @@ use mathlib.Core.Path.{refl}
 use mathlib.Core.List.{List, _++_}
 use mathlib.Core.Option.{Option}
 use Rattle.records.specs.declared.Record.{Record}
-use Rattle.table.proofs.Interface.{laws, step-laws}
+use Rattle.promises.proofs.Interface.{laws, step-laws}
 use Rattle.table.specs.declared.Answer.{Answer}
 use Rattle.table.specs.declared.Station.{Station}
 use Rattle.table.specs.Reached.{Reached, stepped}
-use Rattle.table.specs.Views.{StepLaws}
+use Rattle.promises.specs.Views.{StepLaws}
 use Rattle.pair.specs.World.{Side, A, B, other, sides, nextIssue, Envelope, World, issuedAfter, act, Comes, nothing, Bounded, Acts, Loses, Step, acts, loses, start, Fresh, Run, begin, next}
 use Rattle.pair.proofs.Directions.{direction}
 use Rattle.pair.proofs.Invariant.{Invariant}

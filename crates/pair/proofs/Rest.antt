@@ -10,10 +10,10 @@ use native.Mathlib.Omega.{arith}
 use lib.Dec.{eqb}
 use Rattle.laws.proofs.Tests.{by-cases, clash, refuted}
 use Rattle.records.specs.declared.Record.{Record}
-use Rattle.table.proofs.Interface.{laws, step-laws}
+use Rattle.promises.proofs.Interface.{laws, step-laws}
 use Rattle.table.specs.declared.Answer.{Answer}
 use Rattle.table.specs.declared.Station.{Station}
-use Rattle.table.specs.Views.{Outgoing, NotOut, Preparing, Prepared, Incoming, NotHeld, Held, someOut, someHeld, out, held, due, sent, to, isOtherEnding, Source, asks, readies, keeps, StepLaws}
+use Rattle.promises.specs.Views.{Outgoing, NotOut, Preparing, Prepared, Incoming, NotHeld, Held, someOut, someHeld, out, held, due, sent, to, isOtherEnding, Source, asks, readies, keeps, StepLaws}
 use Rattle.pair.specs.Theorem.{EndsOnce, AsFixed, AtRest, Past, starts, Still, here, onward, Nine, Demand}
 use Rattle.pair.specs.World.{Side, other, Envelope, World, recordOf, isMessage, act, Comes, All, nothing, Acts, Step, acts, loses}
 use Rattle.pair.proofs.Posting.{posted-to, all-posted}

@@ -9,8 +9,8 @@ use native.Mathlib.Omega.{arith}
 use lib.Dec.{leb, ltb, eqb}
 use lib.ListN.{length}
 use Rattle.laws.proofs.Tests.{by-cases}
-use Rattle.table.specs.Numbers.{nextAfter}
-use Rattle.table.specs.Views.{count, times}
+use Rattle.handover.specs.Numbers.{nextAfter}
+use Rattle.promises.specs.Views.{count, times}
 use Rattle.table.proofs.Issuing.{next-small}
 
 -- so many steps up from c to i: 1 to 4,096, and 4,096 from one to itself

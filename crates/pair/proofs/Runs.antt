@@ -6,10 +6,10 @@ use mathlib.Core.Bool.{Bool, true, false, _&&_}
 use mathlib.Core.List.{List, [], _∷_}
 use Rattle.laws.proofs.Tests.{both-true}
 use Rattle.records.specs.Record.{bytesOf}
-use Rattle.table.specs.Cases as cases
-use Rattle.table.specs.Events.{message}
+use Rattle.promises.specs.Cases as cases
+use Rattle.handover.specs.Events.{message}
 use Rattle.table.specs.Step.{bornOf, stepOf}
-use Rattle.table.specs.Views.{Prepared, out}
+use Rattle.promises.specs.Views.{Prepared, out}
 use Rattle.pair.specs.Theorem.{Settled, Settles}
 use Rattle.pair.specs.World.{Side, A, B, Answered, Silent, Refused, Fixed, Handover, World, start, Run, begin}
 use Rattle.pair.proofs.Scripts.{Move, does, hears, misses, played, playable, steps, run-on}

@@ -15,13 +15,13 @@ use Rattle.records.specs.Record.{little, recordOf, InRange}
 use Rattle.records.specs.declared.Record.{Record}
 use Rattle.bearers.specs.Admission.{those, turnsFrom, freeAt, verdict}
 use Rattle.bearers.specs.Bearer.{recordsIn, allBearers}
-use Rattle.bearers.specs.Sets.{add, setOf}
-use Rattle.table.specs.Cases.{numbered}
-use Rattle.table.specs.Events.{message}
-use Rattle.table.specs.Numbers.{anyOf, issueFrom}
+use Rattle.sets.specs.Sets.{add, setOf}
+use Rattle.promises.specs.Cases.{numbered}
+use Rattle.handover.specs.Events.{message}
+use Rattle.handover.specs.Numbers.{anyOf, issueFrom}
 use Rattle.table.specs.Step.{stepOf}
 use Rattle.table.specs.Table.{findFrom, dueFrom}
-use Rattle.table.specs.Views.{named, out, held, due}
+use Rattle.promises.specs.Views.{named, out, held, due}
 use Rattle.pair.proofs.Lists.{all-pass}
 use Rattle.pair.specs.World.{Side, A, B, other, Numbers, Envelope, World, act, asSent, Carries, request, plain, isMessage, own, take, All, nothing, more, Bounded, withQueue, Acts, Step, acts, loses, Run, next, limit}
 

@@ -10,13 +10,13 @@ use lib.Dec.{leb, eqb}
 use lib.ListN.{getD}
 use Rattle.laws.proofs.Tests.{by-cases, both-true, clash, every, every-at}
 use Rattle.records.specs.declared.Record.{Record}
-use Rattle.table.specs.Cases as cases
-use Rattle.table.specs.Numbers.{blank, ownIs}
+use Rattle.promises.specs.Cases as cases
+use Rattle.handover.specs.Numbers.{blank, ownIs}
 use Rattle.table.specs.Step.{stepOf}
 use Rattle.table.specs.Table.{find, findFrom}
-use Rattle.table.specs.Views.{recordAt, named, dueOf, due, to}
+use Rattle.promises.specs.Views.{recordAt, named, dueOf, due, to}
 use Rattle.table.specs.declared.Answer.{Answer}
-use Rattle.table.specs.declared.Entry.{Entry}
+use Rattle.handover.specs.declared.Entry.{Entry}
 use Rattle.table.specs.declared.Station.{Station}
 use Rattle.pair.specs.Theorem.{Past, Settled, Still, here, onward, Nine, Settles}
 use Rattle.pair.specs.World.{Side, A, B, Envelope, World, acts, Run, next}

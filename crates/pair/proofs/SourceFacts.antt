@@ -13,8 +13,8 @@ use lib.Dec.{leb, eqb}
 use Rattle.laws.proofs.Tests.{by-cases, both-true, clash, refuted}
 use Rattle.records.specs.declared.Record.{Record}
 use Rattle.table.specs.declared.Answer.{Answer}
-use Rattle.table.specs.Views.{Outgoing, NotOut, Preparing, Prepared, someOut, sent, ending, to, issued, Ends, Source, asks, readies, keeps}
-use Rattle.table.proofs.Interface.{request-issues}
+use Rattle.promises.specs.Views.{Outgoing, NotOut, Preparing, Prepared, someOut, sent, ending, to, issued, Ends, Source, asks, readies, keeps}
+use Rattle.promises.proofs.Interface.{request-issues}
 use Rattle.pair.specs.World.{Side, Numbers, nextIssue, Fixed, Handover, untold, Envelope, recordOf, isPrepared, took, limit, Recent}
 use Rattle.pair.proofs.Directions.{Direction, sourceAfter, SourceStep}
 use Rattle.pair.proofs.Invariant.{oldOf, newOf, setOf, outgoing, recordFor, Invariant}

@@ -12,7 +12,7 @@ use lib.Dec.{eqb}
 use Rattle.laws.proofs.Tests.{by-cases, both-true, either-true}
 use Rattle.records.specs.declared.Record.{Record}
 use Rattle.table.specs.declared.Answer.{Answer}
-use Rattle.table.specs.Views.{NotOut, Preparing, Prepared, someOut, sent, ending, to, issued, Ends, failed, moved, otherwise, Source, asks, readies, keeps}
+use Rattle.promises.specs.Views.{NotOut, Preparing, Prepared, someOut, sent, ending, to, issued, Ends, failed, moved, otherwise, Source, asks, readies, keeps}
 use Rattle.pair.specs.World.{Side, nextIssue, Envelope, Fixed, Refused, isPrepared, recordOf, took}
 use Rattle.pair.proofs.Directions.{Direction, SourceStep}
 use Rattle.pair.proofs.Invariant.{kindOf, oldOf, newOf, outgoing, recordFor, isEnding, Released, Ended, Moved, Came, Failed, Invariant}

@@ -11,7 +11,7 @@ use lib.Dec.{eqb}
 use Rattle.laws.proofs.Tests.{by-cases, refuted}
 use Rattle.records.specs.declared.Record.{Record}
 use Rattle.table.specs.declared.Answer.{Answer}
-use Rattle.table.specs.Views.{someOut, sent, to, issued}
+use Rattle.promises.specs.Views.{someOut, sent, to, issued}
 use Rattle.pair.specs.World.{Side, nextIssue, Envelope, Answered, Fixed, Refused, letter, isMessage, posted, Recent}
 use Rattle.pair.proofs.Lists.{all-map, all-both, all-front}
 use Rattle.pair.proofs.Directions.{Direction, SourceStep}

@@ -9,7 +9,7 @@ use mathlib.Core.Option.{Option, some}
 use native.Mathlib.Omega.{arith}
 use Rattle.records.specs.declared.Record.{Record}
 use Rattle.table.specs.declared.Answer.{Answer}
-use Rattle.table.specs.Views.{Prepared, someOut, to}
+use Rattle.promises.specs.Views.{Prepared, someOut, to}
 use Rattle.pair.specs.World.{Side, nextIssue, Envelope, Fixed, recordOf}
 use Rattle.pair.proofs.Lists.{all-both}
 use Rattle.pair.proofs.Directions.{Direction, SourceStep}

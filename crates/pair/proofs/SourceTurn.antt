@@ -4,7 +4,7 @@ use mathlib.Core.List.{List}
 use mathlib.Core.Option.{Option}
 use Rattle.records.specs.declared.Record.{Record}
 use Rattle.table.specs.declared.Answer.{Answer}
-use Rattle.table.specs.Views.{issued}
+use Rattle.promises.specs.Views.{issued}
 use Rattle.pair.specs.World.{Side, Envelope}
 use Rattle.pair.proofs.Directions.{Direction, sourceAfter, SourceStep}
 use Rattle.pair.proofs.Invariant.{Invariant}

@@ -10,7 +10,7 @@ use native.Mathlib.Omega.{arith}
 use lib.Dec.{eqb}
 use Rattle.laws.proofs.Tests.{both-true}
 use Rattle.records.specs.declared.Record.{Record}
-use Rattle.table.specs.Events.{message}
+use Rattle.handover.specs.Events.{message}
 use Rattle.pair.specs.World.{Envelope, took, asSent, Carries, request, plain, Comes, own, take, All}
 use Rattle.pair.proofs.Lists.{Pairs, all-any, all-map, all-head, all-tail, pairs-head, pairs-tail}
 

@@ -11,9 +11,9 @@ use native.Mathlib.Omega.{arith}
 use lib.Dec.{eqb}
 use Rattle.laws.proofs.Tests.{by-cases, both-true, clash, refuted}
 use Rattle.records.specs.declared.Record.{Record}
-use Rattle.table.proofs.Interface.{to-means}
+use Rattle.promises.proofs.Interface.{to-means}
 use Rattle.table.specs.declared.Answer.{Answer}
-use Rattle.table.specs.Views.{Prepared, Incoming, NotHeld, Held, held, someHeld, sent, to}
+use Rattle.promises.specs.Views.{Prepared, Incoming, NotHeld, Held, held, someHeld, sent, to}
 use Rattle.pair.specs.World.{Side, Answered, Refused, Fixed, Envelope, took, tagOf, arrivesFor, letter, isMessage}
 use Rattle.pair.proofs.Posting.{posted-to, all-posted, pairs-posted}
 use Rattle.pair.proofs.Taking.{took-of, left, left-pairs, left-behind}

@@ -8,7 +8,7 @@ use mathlib.Core.Option.{some}
 use Rattle.records.specs.declared.Record.{Record}
 use Rattle.table.specs.declared.Answer.{Answer}
 use Rattle.table.specs.Step.{stepOf}
-use Rattle.table.specs.Views.{NotOut, Prepared, NotHeld, out, held, due, to, isOtherEnding}
+use Rattle.promises.specs.Views.{NotOut, Prepared, NotHeld, out, held, due, to, isOtherEnding}
 use Rattle.pair.specs.World.{Side, Handover, Fixed, World, Acts, Step, acts, loses, Run}
 
 -- A handover has one ending "at the source": moved if and only if "the target saw the UE arrive" and its release "came while the source

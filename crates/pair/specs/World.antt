@@ -10,7 +10,7 @@ use Rattle.records.specs.declared.Record.{Record}
 use Rattle.table.specs.declared.Answer.{Answer}
 use Rattle.table.specs.declared.Station.{Station}
 use Rattle.table.specs.Step.{stepOf, bornOf}
-use Rattle.table.specs.Views.{Outgoing, NotOut, Preparing, Prepared, someOut, someHeld, out, held, sent, ending, to, issued}
+use Rattle.promises.specs.Views.{Outgoing, NotOut, Preparing, Prepared, someOut, someHeld, out, held, sent, ending, to, issued}
 
 -- ---- two sides
 

@@ -9,10 +9,10 @@ use Rattle.laws.proofs.Sums.{total-at, total-set, total-map, total-equal, total
 use Rattle.laws.specs.Sums.{total}
 use Rattle.laws.proofs.Tests.{by-cases}
 use Rattle.records.specs.declared.Record.{Record}
-use Rattle.table.specs.declared.Entry.{Entry}
+use Rattle.handover.specs.declared.Entry.{Entry}
 use Rattle.table.specs.declared.Station.{Station}
-use Rattle.table.specs.Events.{about}
-use Rattle.table.specs.Numbers.{isFree, blank}
+use Rattle.handover.specs.Events.{about}
+use Rattle.handover.specs.Numbers.{isFree, blank}
 use Rattle.table.specs.Sound.{Fit, Sound, ownTimes, heldTimes}
 use Rattle.table.specs.Table.{at, put, add, leftOf, backOf, reset}
 use Rattle.table.proofs.Finding.{set-each}

@@ -12,12 +12,12 @@ use lib.Seq.{drop-cons, getD-set-same, getD-set-other}
 use Rattle.laws.proofs.Tests.{by-cases, clash}
 use Rattle.records.specs.declared.Record.{Record}
 use Rattle.table.specs.declared.Best.{Best}
-use Rattle.table.specs.declared.Entry.{Entry}
+use Rattle.handover.specs.declared.Entry.{Entry}
 use Rattle.table.specs.declared.Found.{Found}
 use Rattle.table.specs.declared.Found.the-variants.{At, Nothing}
 use Rattle.table.specs.declared.Station.{Station}
-use Rattle.table.specs.Events.{key}
-use Rattle.table.specs.Numbers.{isFree, blank, anyOf}
+use Rattle.handover.specs.Events.{key}
+use Rattle.handover.specs.Numbers.{isFree, blank, anyOf}
 use Rattle.table.specs.Table.{find, findFrom, dueBy, sooner, betterBy, placeOf, dueFrom, soonest}
 
 -- ---- a walk whose outcome from a place on is its outcome in all

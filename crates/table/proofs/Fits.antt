@@ -8,12 +8,12 @@ use lib.Dec.{eqb}
 use Rattle.laws.proofs.Tests.{both-true}
 use Rattle.records.specs.declared.Record.{Record}
 use Rattle.bearers.specs.declared.Admission.{Admission}
-use Rattle.bearers.specs.Sets.{union, disjoint, within}
-use Rattle.bearers.proofs.Membership.{within-means, member-union}
-use Rattle.table.specs.declared.Entry.{Entry}
+use Rattle.sets.specs.Sets.{union, disjoint, within}
+use Rattle.sets.proofs.Membership.{within-means, member-union}
+use Rattle.handover.specs.declared.Entry.{Entry}
 use Rattle.table.specs.declared.Station.{Station}
-use Rattle.table.specs.Events.{decide, listsFit, setFits, prepared, stored, serving}
-use Rattle.table.specs.Numbers.{isFree, blank, own}
+use Rattle.handover.specs.Events.{decide, listsFit, setFits, prepared, stored, serving}
+use Rattle.handover.specs.Numbers.{isFree, blank, own}
 use Rattle.table.specs.Sound.{Fit, Sound, ownTimes, heldTimes}
 use Rattle.table.specs.Step.{started, heldFor}
 use Rattle.table.proofs.Counting.{issue-small}

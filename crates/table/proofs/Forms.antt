@@ -7,7 +7,7 @@ use native.Mathlib.Omega.{arith}
 use lib.Dec.{leb, eqb}
 use Rattle.laws.proofs.Tests.{by-cases, both-true}
 use Rattle.records.specs.declared.Record.{Record}
-use Rattle.table.specs.Fields.{usedBy, isAbsent, isKind, inRange, idsInRange, valuesInRange, othersZero, isFilled, wellFormed}
+use Rattle.fields.specs.Fields.{usedBy, isAbsent, isKind, inRange, idsInRange, valuesInRange, othersZero, isFilled, wellFormed}
 
 -- A kind is below 18.
 kind-below : (k : ℕ) → isKind k ≡ true → k < 18

@@ -11,9 +11,9 @@ use Rattle.records.specs.declared.Record.{Record}
 use Rattle.table.specs.declared.Answer.{Answer}
 use Rattle.table.specs.declared.Found.the-variants.{At, Nothing}
 use Rattle.table.specs.declared.Station.{Station}
-use Rattle.table.specs.Events.{about, silence}
-use Rattle.table.specs.Fields.{wellFormed}
-use Rattle.table.specs.Numbers.{isFree}
+use Rattle.handover.specs.Events.{about, silence}
+use Rattle.fields.specs.Fields.{wellFormed}
+use Rattle.handover.specs.Numbers.{isFree}
 use Rattle.table.specs.Step.{answer, refused, aboutOne, isReset, resetOf, startAt, tickAt, tickOf, taken, complete, admission, failure, granted, requestOf, stepOf}
 use Rattle.table.specs.Table.{find, soonest, at}
 use Rattle.table.proofs.Finding.{by-found}

@@ -6,11 +6,11 @@ use native.Mathlib.Omega.{arith}
 use lib.ListN.{getD}
 use Rattle.laws.proofs.Sums.{total-at}
 use Rattle.records.specs.declared.Record.{Record}
-use Rattle.table.specs.declared.Entry.{Entry}
+use Rattle.handover.specs.declared.Entry.{Entry}
 use Rattle.table.specs.declared.Found.the-variants.{At}
 use Rattle.table.specs.declared.Station.{Station}
-use Rattle.table.specs.Events.{decide}
-use Rattle.table.specs.Numbers.{blank}
+use Rattle.handover.specs.Events.{decide}
+use Rattle.handover.specs.Numbers.{blank}
 use Rattle.table.specs.Sound.{Sound}
 use Rattle.table.specs.Table.{find, soonest, at, Puts}
 use Rattle.table.proofs.Deciding.{decide-units}

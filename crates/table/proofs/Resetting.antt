@@ -11,10 +11,10 @@ use Rattle.laws.proofs.Sums.{total-append, total-le}
 use Rattle.laws.specs.Sums.{total}
 use Rattle.laws.proofs.Tests.{by-cases, on-either}
 use Rattle.records.specs.declared.Record.{Record}
-use Rattle.table.specs.declared.Entry.{Entry}
+use Rattle.handover.specs.declared.Entry.{Entry}
 use Rattle.table.specs.declared.Station.{Station}
-use Rattle.table.specs.Events.{key, keyed, about}
-use Rattle.table.specs.Numbers.{blank}
+use Rattle.handover.specs.Events.{key, keyed, about}
+use Rattle.handover.specs.Numbers.{blank}
 use Rattle.table.specs.Sound.{Sound}
 use Rattle.table.specs.Table.{holding, Puts, put, leftOf, backOf, reset}
 

@@ -13,11 +13,11 @@ use Rattle.laws.proofs.Tests.{by-cases, both-true}
 use Rattle.records.specs.declared.Record.{Record}
 use Rattle.bearers.specs.Admission.{judgeable}
 use Rattle.table.specs.declared.Answer.{Answer}
-use Rattle.table.specs.declared.Entry.{Entry}
+use Rattle.handover.specs.declared.Entry.{Entry}
 use Rattle.table.specs.declared.Found.the-variants.{At, Nothing}
 use Rattle.table.specs.declared.Station.{Station}
-use Rattle.table.specs.Events.{about, decide}
-use Rattle.table.specs.Numbers.{isFree, isHeld, own, blank}
+use Rattle.handover.specs.Events.{about, decide}
+use Rattle.handover.specs.Numbers.{isFree, isHeld, own, blank}
 use Rattle.table.specs.Reached.{Reached, born, stepped}
 use Rattle.table.specs.Sound.{Fit, Sound, ownTimes, heldTimes}
 use Rattle.table.specs.Step.{issue, stepOf, bornOf, fresh, isTimer, settled, started, heldFor, admission, taken, freeUnits}

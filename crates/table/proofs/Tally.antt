@@ -8,10 +8,10 @@ use lib.ListN.{length, getD}
 use Rattle.laws.specs.Sums.{total}
 use Rattle.laws.proofs.Sums.{total-at}
 use Rattle.laws.proofs.Tests.{by-cases}
-use Rattle.table.specs.declared.Entry.{Entry}
+use Rattle.handover.specs.declared.Entry.{Entry}
 use Rattle.table.specs.declared.Found.the-variants.{At}
 use Rattle.table.specs.declared.Station.{Station}
-use Rattle.table.specs.Numbers.{blank, anyOf}
+use Rattle.handover.specs.Numbers.{blank, anyOf}
 use Rattle.table.specs.Table.{find}
 use Rattle.table.proofs.Finding.{found-here}
 

@@ -5,10 +5,10 @@ use mathlib.Core.Bool.{true, false, cond, _&&_}
 use lib.Dec.{leb, ltb, eqb}
 use lib.ListN.{length, getD}
 use Rattle.laws.specs.Sums.{total}
-use Rattle.bearers.specs.Sets.{within}
-use Rattle.table.specs.declared.Entry.{Entry}
+use Rattle.sets.specs.Sets.{within}
+use Rattle.handover.specs.declared.Entry.{Entry}
 use Rattle.table.specs.declared.Station.{Station}
-use Rattle.table.specs.Numbers.{isFree, isOutgoing, isIncoming, isHeld, blank, own, ownIs}
+use Rattle.handover.specs.Numbers.{isFree, isOutgoing, isIncoming, isHeld, blank, own, ownIs}
 
 -- of one place of the table
 pub record Fit (r : Entry) : Type 0 where

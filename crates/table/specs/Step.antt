@@ -10,15 +10,15 @@ use Rattle.bearers.specs.Admission.{release8, admissionOf, judgeable, verdictsI
 use Rattle.bearers.specs.Bearer as bearer
 use Rattle.table.specs.declared.Answer.{Answer}
 use Rattle.table.specs.declared.Birth.{Birth}
-use Rattle.table.specs.declared.Decision.{Decision}
-use Rattle.table.specs.declared.Entry.{Entry}
+use Rattle.handover.specs.declared.Decision.{Decision}
+use Rattle.handover.specs.declared.Entry.{Entry}
 use Rattle.table.specs.declared.Found.{Found}
 use Rattle.table.specs.declared.Found.the-variants.{At, Nothing}
 use Rattle.table.specs.declared.Outcome.{Outcome}
 use Rattle.table.specs.declared.Station.{Station}
-use Rattle.table.specs.Numbers.{isFree, blank, nextAfter, issueFrom}
-use Rattle.table.specs.Fields.{wellFormed}
-use Rattle.table.specs.Events.{about, message, silence, decide}
+use Rattle.handover.specs.Numbers.{isFree, blank, nextAfter, issueFrom}
+use Rattle.fields.specs.Fields.{wellFormed}
+use Rattle.handover.specs.Events.{about, message, silence, decide}
 use Rattle.table.specs.Table.{find, soonest, at, put, add, reset}
 
 -- an answer: reply, ending, admitted count and message, beside the next station

@@ -8,12 +8,12 @@ use lib.ListN.{length, getD, set}
 use Rattle.laws.specs.Sums.{total}
 use Rattle.records.specs.declared.Record.{Record}
 use Rattle.table.specs.declared.Best.{Best}
-use Rattle.table.specs.declared.Entry.{Entry}
+use Rattle.handover.specs.declared.Entry.{Entry}
 use Rattle.table.specs.declared.Found.{Found}
 use Rattle.table.specs.declared.Found.the-variants.{At, Nothing}
 use Rattle.table.specs.declared.Station.{Station}
-use Rattle.table.specs.Numbers.{isFree, own, blank}
-use Rattle.table.specs.Events.{key, keyed, about}
+use Rattle.handover.specs.Numbers.{isFree, own, blank}
+use Rattle.handover.specs.Events.{key, keyed, about}
 
 -- ---- finding
 

@@ -1,25 +1,23 @@
 // The handover table of one station: it takes decoded messages, local decisions and clock ticks, and gives the next table, a
 // reply and at most one message to send.
-mod events;
-mod fields;
-mod numbers;
-
-use crate::events::KEYS;
-use crate::events::decide;
-use crate::events::is_about;
-use crate::events::message;
-use crate::events::reset_word;
-use crate::events::silence;
-use crate::fields::well_formed;
-use crate::numbers::blank;
-use crate::numbers::next_after;
-use crate::numbers::own;
-use crate::numbers::own_is;
 use bearers::Admission;
 use bearers::Judgement;
 use bearers::admit;
 use bearers::can_judge;
 use bearers::refuse_all;
+use fields::well_formed;
+use handover::Decision;
+use handover::Entry;
+use handover::events::decide;
+use handover::events::is_about;
+use handover::events::key_of;
+use handover::events::message;
+use handover::events::reset_word;
+use handover::events::silence;
+use handover::numbers::blank;
+use handover::numbers::next_after;
+use handover::numbers::own;
+use handover::numbers::own_is;
 use records::NewId;
 use records::OldId;
 use records::Record;
@@ -30,25 +28,12 @@ ghost use mathlib.Core.Bool.{cond, _&&_, _||_};
 ghost use mathlib.Core.List.{[]};
 ghost use Rattle.bearers.specs.Admission.{judgeable, allFive};
 ghost use lib.ListN.{length, getD};
-ghost use Rattle.table.specs.Numbers.{isFree, ownIs, anyOf};
+ghost use Rattle.handover.specs.Numbers.{isFree, ownIs, anyOf};
 ghost use Rattle.table.specs.Table.{find as findOf, dueBy, sooner, Puts, reset as resetTo};
 ghost use Rattle.table.specs.Sound.{Sound};
 ghost use Rattle.table.specs.Reached.{Reached};
 ghost use Rattle.table.specs.Step.{issue as issueOf, quiet as quietOf, refused as refusedOf, carried as carriedOf, aboutOne, tickOf, startAt, resetOf, failure as failureOf, grantAt, admittedAt, verdictsAt, requestOf, requestVerdicts, stepOf, verdictsOf, isTimer, fresh as freshOf, birthOf};
-ghost use Rattle.table.specs.Events.{about};
-
-// A record of the table: 0 free, 1 preparing, 2 prepared, 3 held, 4 serving.
-pub struct Entry {
-    state: u8,
-    neighbour: u8,
-    old: OldId,
-    new: NewId,
-    requested: u16,
-    admitted: u16,
-    status: u16,
-    units: u32,
-    deadline: u64,
-}
+ghost use Rattle.handover.specs.Events.{about};
 
 pub struct Station {
     entries: [Entry; 64],
@@ -81,22 +66,14 @@ pub struct Birth {
 }
 
 // A place of the table, if there is one.
-enum Found {
+pub enum Found {
     At(usize),
     Nothing,
 }
 
 // The soonest due record so far, and its place; none if it is free.
-struct Best {
+pub struct Best {
     place: usize,
-    entry: Entry,
-}
-
-// What an event does to the record it is about.
-struct Decision {
-    reply: u8,
-    ending: u8,
-    message: Record,
     entry: Entry,
 }
 
@@ -173,8 +150,7 @@ impl Station {
         requires { ⌜ (e .kind < 18) × (length (self .entries) ≡ 64) ⌝ }
         ensures { λ r. ⌜ r ≡ findOf (about e) self ⌝ }
     {
-        let kind = e.kind as usize;
-        let key = KEYS[kind];
+        let key = key_of(e.kind);
         for i in 0..64 {
             let r = self.entries[i];
             if is_about(e, r, key) {
@@ -254,8 +230,7 @@ impl Station {
         requires { ⌜ (e .kind < 18) × Sound self ⌝ }
         ensures { λ a. ⌜ a ≡ aboutOne e (findOf (about e) self) self ⌝ }
     {
-        let kind = e.kind as usize;
-        let key = KEYS[kind];
+        let key = key_of(e.kind);
         for i in 0..64 {
             let r = self.entries[i];
             if is_about(e, r, key) {
@@ -279,8 +254,7 @@ impl Station {
                 station: self,
             };
         }
-        let kind = e.kind as usize;
-        let key = KEYS[kind];
+        let key = key_of(e.kind);
         let mut best = Best {
             place: 0,
             entry: blank(),
@@ -346,8 +320,7 @@ impl Station {
         requires { ⌜ (e .kind < 18) × Sound self ⌝ }
         ensures { λ s. ⌜ s ≡ resetTo e self ⌝ }
     {
-        let kind = e.kind as usize;
-        let key = KEYS[kind];
+        let key = key_of(e.kind);
         for i in 0..64 {
             let r = self.entries[i];
             if is_about(e, r, key) {

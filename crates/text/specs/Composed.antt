@@ -4,7 +4,7 @@ use mathlib.Core.Bool.{Bool, true, false, cond, _&&_, _||_}
 use mathlib.Core.List.{List, [], _∷_}
 use lib.Dec.{leb, eqb}
 use lib.ListN.{length, getD, set}
-use Rattle.bearers.specs.Sets.{add}
+use Rattle.sets.specs.Sets.{add}
 use Rattle.records.specs.Record.{roomAt, writtenAt}
 use Rattle.records.specs.declared.Record.{Record}
 use Rattle.text.specs.declared.compose.Word.{Word}

@@ -4,7 +4,7 @@ use mathlib.Core.Bool.{Bool, true, false, cond, _&&_}
 use mathlib.Core.List.{List, [], _∷_, _++_}
 use lib.Dec.{leb, eqb}
 use lib.ListN.{length, take, drop}
-use Rattle.bearers.specs.Sets.{member}
+use Rattle.sets.specs.Sets.{member}
 use Rattle.lines.specs.Text.{size, digits}
 use Rattle.records.specs.Record.{recordOf}
 use Rattle.records.specs.Stream.{takesBearers}

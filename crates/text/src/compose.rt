@@ -1,9 +1,9 @@
 // Lines in, records out: one byte of the text after the other.
 use crate::words::place_of;
-use bearers::sets::add;
 use records::NewId;
 use records::OldId;
 use records::Record;
+use sets::add;
 ghost use mathlib.Core.Path.{_≡_};
 ghost use Prim.Native.Nat.{_+_, _≤_, _<_};
 ghost use lib.ListN.{set};

@@ -1,11 +1,11 @@
 // Records in, lines out.
 use crate::compose::is_set;
 use crate::words::write_word;
-use bearers::sets::member;
 use lines::text::size;
 use lines::text::spell;
 use records::Read;
 use records::Record;
+use sets::member;
 ghost use mathlib.Core.Path.{_≡_};
 ghost use Prim.Native.Nat.{_+_, _*_, _≤_, _<_};
 ghost use lib.ListN.{length, take, drop};

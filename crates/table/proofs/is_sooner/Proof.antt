@@ -2,7 +2,7 @@
 use borrow.Author.Tests.{le-leb, lt-leb}
 use mathlib.Core.Bool.{and-false, and-true}
 use lib.ListN.{getD}
-use Rattle.table.specs.Events.{keyed}
+use Rattle.handover.specs.Events.{keyed}
 use borrow.Author.Needs.{needs}
 use Rattle.table.proofs.is_sooner.Statement.{statement}
 use Rattle.table.proofs.is_sooner.Tie as tie

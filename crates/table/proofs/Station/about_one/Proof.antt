@@ -3,8 +3,8 @@ use Prim.Native.Nat.{_≤_, _-_}
 use mathlib.Core.Path.{_≡_, refl, _∙_, sym, subst}
 use native.Mathlib.Omega.{arith}
 use lib.ListN.{drop}
-use Rattle.table.specs.declared.Decision.{Decision}
-use Rattle.table.specs.Events.{about}
+use Rattle.handover.specs.declared.Decision.{Decision}
+use Rattle.handover.specs.Events.{about}
 use Rattle.table.specs.Table.{find, findFrom, Puts}
 use Rattle.table.proofs.Finding.{find-here, find-past, find-end}
 use Rattle.table.proofs.Placing.{decided-puts}
@@ -13,19 +13,13 @@ use Rattle.table.proofs.Station.about_one.Statement.{statement}
 use Rattle.table.proofs.Station.about_one.Tie as tie
 
 abbrev Inv-loop : tie.InvT-loop
-Inv-loop e self kind key i₀ i = (i ≤ 64) × (findFrom (about e) i (drop i (self .entries)) ≡ find (about e) self)
+Inv-loop e self key i₀ i = (i ≤ 64) × (findFrom (about e) i (drop i (self .entries)) ≡ find (about e) self)
 
 abbrev μ-loop : tie.MeasureT-loop
-μ-loop e self kind key i₀ i = 64 - i
+μ-loop e self key i₀ i = 64 - i
 
-cast-kind : tie.Need-cast-kind Inv-loop μ-loop
-cast-kind c = search needs
-
-mul-key : tie.Need-mul-key Inv-loop μ-loop
-mul-key c = search needs
-
-array-copy-out-key : tie.Need-array-copy-out-key Inv-loop μ-loop
-array-copy-out-key c = search needs
+key-of-requires : tie.Need-key-of-requires Inv-loop μ-loop
+key-of-requires c κs = search needs
 
 loop-holds : tie.Need-loop-holds Inv-loop μ-loop
 loop-holds c = (omega arith, refl)
@@ -46,19 +40,19 @@ add-decide : tie.Need-add-decide Inv-loop μ-loop
 add-decide c = search needs
 
 decide-requires : tie.Need-decide-requires Inv-loop μ-loop
-decide-requires c κs = (c .before .before .before .before .before .before .before .pre .0, c .before .before .before .before .before .before .before .pre .1 .fit (c .before .before .before .before .loop .i) (c .before .before .before .loop-test .taken) .state)
+decide-requires c κs = (c .before .before .before .before .before .before .pre .0, c .before .before .before .before .before .before .pre .1 .fit (c .before .before .before .before .loop .i) (c .before .before .before .loop-test .taken) .state)
 
 carried-requires : tie.Need-carried-requires Inv-loop μ-loop
 carried-requires c κs =
-    let a = c .before .before .before .before .before .before .before .before .args in
+    let a = c .before .before .before .before .before .before .before .args in
     let i = c .before .before .before .before .before .loop .i in
-    subst (λ (d : Decision). Puts i (d .entry) (a .t1)) (sym (c .decide .ensures)) (decided-puts (a .t1) (c .before .before .before .before .before .before .before .before .pre .1) (a .e) i _ (c .before .before .before .before .loop-test .taken))
+    subst (λ (d : Decision). Puts i (d .entry) (a .t1)) (sym (c .decide .ensures)) (decided-puts (a .t1) (c .before .before .before .before .before .before .before .pre .1) (a .e) i _ (c .before .before .before .before .loop-test .taken))
 
 returns : tie.Need-returns Inv-loop μ-loop
 returns c =
-    let a = c .before .before .before .before .before .before .before .before .before .args in
+    let a = c .before .before .before .before .before .before .before .before .args in
     let l = c .before .before .before .before .before .before .loop in
-    rw (find-here (a .t1) (c .before .before .before .before .before .before .before .before .before .pre .1 .places) (l .i) (about (a .e)) (l .inv .1) (c .before .before .before .before .before .loop-test .taken) (sym (c .before .before .before .is-about .ensures) ∙ c .before .before .if1 .taken))
+    rw (find-here (a .t1) (c .before .before .before .before .before .before .before .before .pre .1 .places) (l .i) (about (a .e)) (l .inv .1) (c .before .before .before .before .before .loop-test .taken) (sym (rw (c .before .before .before .before .before .before .before .key-of .ensures) at (c .before .before .before .is-about .ensures)) ∙ c .before .before .if1 .taken))
     (c .carried .ensures ∙ rw (c .before .decide .ensures))
 
 add-i : tie.Need-add-i Inv-loop μ-loop
@@ -69,18 +63,18 @@ loop-less c = search needs
 
 loop-again : tie.Need-loop-again Inv-loop μ-loop
 loop-again c =
-    let a = c .before .before .before .before .before .before .before .args in
+    let a = c .before .before .before .before .before .before .args in
     let l = c .before .before .before .before .loop in
-    (omega arith, find-past (a .t1) (c .before .before .before .before .before .before .before .pre .1 .places) (l .i) (about (a .e)) (l .inv .1) (c .before .before .before .loop-test .taken) (sym (c .before .is-about .ensures) ∙ c .if1 .left))
+    (omega arith, find-past (a .t1) (c .before .before .before .before .before .before .pre .1 .places) (l .i) (about (a .e)) (l .inv .1) (c .before .before .before .loop-test .taken) (sym (rw (c .before .before .before .before .before .key-of .ensures) at (c .before .is-about .ensures)) ∙ c .if1 .left))
 
 quiet-requires : tie.Need-quiet-requires Inv-loop μ-loop
 quiet-requires c κs = search needs
 
 returns-2 : tie.Need-returns-2 Inv-loop μ-loop
 returns-2 c =
-    let a = c .before .before .before .before .before .args in
+    let a = c .before .before .before .before .args in
     let l = c .before .before .loop in
-    rw (find-end (a .t1) (c .before .before .before .before .before .pre .1 .places) (l .i) (about (a .e)) (l .inv .1) (c .before .loop-test .left), c .quiet .ensures)
+    rw (find-end (a .t1) (c .before .before .before .before .pre .1 .places) (l .i) (about (a .e)) (l .inv .1) (c .before .loop-test .left), c .quiet .ensures)
 
 pub about-one-spec : {M : Type 1} → statement M
 about-one-spec =
@@ -88,9 +82,7 @@ about-one-spec =
     (tie.spec
     Inv-loop
     μ-loop
-    cast-kind
-    mul-key
-    array-copy-out-key
+    key-of-requires
     loop-holds
     mul-r
     element-copy-out-r

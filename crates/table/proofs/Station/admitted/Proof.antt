@@ -6,7 +6,7 @@ use lib.ListN.{length}
 use Rattle.bearers.specs.Admission.{judgeable}
 use Rattle.bearers.specs.declared.Admission.{Admission}
 use Rattle.table.specs.declared.Found.the-variants.{At, Nothing}
-use Rattle.table.specs.Numbers.{isFree}
+use Rattle.handover.specs.Numbers.{isFree}
 use Rattle.table.specs.Step.{admission, freeUnits, grantAt}
 use Rattle.table.specs.Table.{find}
 use Rattle.table.proofs.Placing.{found-place}

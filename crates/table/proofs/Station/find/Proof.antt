@@ -3,7 +3,7 @@ use Prim.Native.Nat.{_≤_, _-_}
 use mathlib.Core.Path.{_≡_, refl, _∙_, sym}
 use native.Mathlib.Omega.{arith}
 use lib.ListN.{drop}
-use Rattle.table.specs.Events.{about}
+use Rattle.handover.specs.Events.{about}
 use Rattle.table.specs.Table.{find, findFrom}
 use Rattle.table.proofs.Finding.{find-here, find-past, find-end}
 use borrow.Author.Needs.{needs}
@@ -11,19 +11,13 @@ use Rattle.table.proofs.Station.find.Statement.{statement}
 use Rattle.table.proofs.Station.find.Tie as tie
 
 abbrev Inv-loop : tie.InvT-loop
-Inv-loop e self kind key i₀ i = (i ≤ 64) × (findFrom (about e) i (drop i (self .entries)) ≡ find (about e) self)
+Inv-loop e self key i₀ i = (i ≤ 64) × (findFrom (about e) i (drop i (self .entries)) ≡ find (about e) self)
 
 abbrev μ-loop : tie.MeasureT-loop
-μ-loop e self kind key i₀ i = 64 - i
+μ-loop e self key i₀ i = 64 - i
 
-cast-kind : tie.Need-cast-kind Inv-loop μ-loop
-cast-kind c = search needs
-
-mul-key : tie.Need-mul-key Inv-loop μ-loop
-mul-key c = search needs
-
-array-copy-out-key : tie.Need-array-copy-out-key Inv-loop μ-loop
-array-copy-out-key c = search needs
+key-of-requires : tie.Need-key-of-requires Inv-loop μ-loop
+key-of-requires c κs = search needs
 
 loop-holds : tie.Need-loop-holds Inv-loop μ-loop
 loop-holds c = (omega arith, refl)
@@ -39,9 +33,9 @@ is-about-requires c κs = search needs
 
 returns : tie.Need-returns Inv-loop μ-loop
 returns c =
-    let a = c .before .before .before .before .before .before .before .args in
+    let a = c .before .before .before .before .before .before .args in
     let l = c .before .before .before .before .loop in
-    sym (find-here (a .t1) (c .before .before .before .before .before .before .before .pre .1) (l .i) (about (a .e)) (l .inv .1) (c .before .before .before .loop-test .taken) (sym (c .before .is-about .ensures) ∙ c .if1 .taken))
+    sym (find-here (a .t1) (c .before .before .before .before .before .before .pre .1) (l .i) (about (a .e)) (l .inv .1) (c .before .before .before .loop-test .taken) (sym (rw (c .before .before .before .before .before .key-of .ensures) at (c .before .is-about .ensures)) ∙ c .if1 .taken))
 
 add-i : tie.Need-add-i Inv-loop μ-loop
 add-i c = search needs
@@ -51,15 +45,15 @@ loop-less c = search needs
 
 loop-again : tie.Need-loop-again Inv-loop μ-loop
 loop-again c =
-    let a = c .before .before .before .before .before .before .before .args in
+    let a = c .before .before .before .before .before .before .args in
     let l = c .before .before .before .before .loop in
-    (omega arith, find-past (a .t1) (c .before .before .before .before .before .before .before .pre .1) (l .i) (about (a .e)) (l .inv .1) (c .before .before .before .loop-test .taken) (sym (c .before .is-about .ensures) ∙ c .if1 .left))
+    (omega arith, find-past (a .t1) (c .before .before .before .before .before .before .pre .1) (l .i) (about (a .e)) (l .inv .1) (c .before .before .before .loop-test .taken) (sym (rw (c .before .before .before .before .before .key-of .ensures) at (c .before .is-about .ensures)) ∙ c .if1 .left))
 
 returns-2 : tie.Need-returns-2 Inv-loop μ-loop
 returns-2 c =
-    let a = c .before .before .before .before .args in
+    let a = c .before .before .before .args in
     let l = c .before .loop in
-    sym (find-end (a .t1) (c .before .before .before .before .pre .1) (l .i) (about (a .e)) (l .inv .1) (c .loop-test .left))
+    sym (find-end (a .t1) (c .before .before .before .pre .1) (l .i) (about (a .e)) (l .inv .1) (c .loop-test .left))
 
 pub find-spec : {M : Type 1} → statement M
 find-spec =
@@ -67,9 +61,7 @@ find-spec =
     (tie.spec
     Inv-loop
     μ-loop
-    cast-kind
-    mul-key
-    array-copy-out-key
+    key-of-requires
     loop-holds
     mul-r
     element-copy-out-r

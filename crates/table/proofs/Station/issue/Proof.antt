@@ -2,7 +2,7 @@
 use borrow.Author.Tests.{not-true, not-false}
 use Prim.Native.Nat.{_<_}
 use mathlib.Core.Path.{_≡_, _∙_, sym}
-use Rattle.table.specs.Numbers.{issueFrom}
+use Rattle.handover.specs.Numbers.{issueFrom}
 use Rattle.table.specs.Step.{issue}
 use Rattle.table.proofs.Issuing.{next-small, issue-free, issue-used, issue-none}
 use borrow.Author.Needs.{needs}

@@ -3,7 +3,7 @@ use borrow.Author.Tests.{not-true, not-false}
 use mathlib.Core.Path.{_∙_, sym}
 use lib.Dec.{eqb}
 use Rattle.laws.proofs.Tests.{by-cases}
-use Rattle.table.specs.Fields.{wellFormed}
+use Rattle.fields.specs.Fields.{wellFormed}
 use Rattle.table.proofs.Forms.{kind-small, number-within}
 use Rattle.table.proofs.Soundness.{sound}
 use borrow.Author.Needs.{needs}

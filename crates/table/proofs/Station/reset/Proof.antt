@@ -6,8 +6,8 @@ use native.Mathlib.Nat.{add-zero}
 use native.Mathlib.Omega.{arith}
 use lib.ListN.{getD}
 use Rattle.table.specs.declared.Station.{Station}
-use Rattle.table.specs.Events.{key}
-use Rattle.table.specs.Numbers.{blank}
+use Rattle.handover.specs.Events.{key}
+use Rattle.handover.specs.Numbers.{blank}
 use Rattle.table.specs.Table.{Puts}
 use Rattle.table.proofs.Resetting.{endedBy, partly, partly-none, partly-all, partly-puts, partly-next}
 use borrow.Author.Needs.{needs}
@@ -15,28 +15,22 @@ use Rattle.table.proofs.Station.reset.Statement.{statement}
 use Rattle.table.proofs.Station.reset.Tie as tie
 
 abbrev Inv-loop : tie.InvT-loop
-Inv-loop e self₀ kind key i₀ self i = (i ≤ 64) × (self ≡ partly e i self₀)
+Inv-loop e self₀ key i₀ self i = (i ≤ 64) × (self ≡ partly e i self₀)
 
 abbrev μ-loop : tie.MeasureT-loop
-μ-loop e self₀ kind key i₀ self i = 64 - i
+μ-loop e self₀ key i₀ self i = 64 - i
 
 -- the record at the place can be ended
 ends : (c : tie.In-loop Inv-loop μ-loop) → Puts (c .before .loop .i) blank (c .before .loop .self)
 ends c =
     let l = c .before .loop in
-    subst (λ (s : Station). Puts (l .i) blank s) (sym (l .inv .1)) (partly-puts (c .before .before .before .before .args .e) (c .before .before .before .before .args .t1) (c .before .before .before .before .pre .1) (l .i) (c .loop-test .taken))
+    subst (λ (s : Station). Puts (l .i) blank s) (sym (l .inv .1)) (partly-puts (c .before .before .before .args .e) (c .before .before .before .args .t1) (c .before .before .before .pre .1) (l .i) (c .loop-test .taken))
 
-cast-kind : tie.Need-cast-kind Inv-loop μ-loop
-cast-kind c = search needs
-
-mul-key : tie.Need-mul-key Inv-loop μ-loop
-mul-key c = search needs
-
-array-copy-out-key : tie.Need-array-copy-out-key Inv-loop μ-loop
-array-copy-out-key c = search needs
+key-of-requires : tie.Need-key-of-requires Inv-loop μ-loop
+key-of-requires c κs = search needs
 
 loop-holds : tie.Need-loop-holds Inv-loop μ-loop
-loop-holds c = (omega arith, partly-none (c .before .before .args .e) (c .before .before .args .t1))
+loop-holds c = (omega arith, partly-none (c .before .args .e) (c .before .args .t1))
 
 mul-r : tie.Need-mul-r Inv-loop μ-loop
 mul-r c = search needs
@@ -53,8 +47,8 @@ sub-self c = ends (c .before .before .before .before) .back
 blank-requires : tie.Need-blank-requires Inv-loop μ-loop
 blank-requires c κs = search needs
 
-mul-t40 : tie.Need-mul-t40 Inv-loop μ-loop
-mul-t40 c = search needs
+mul-t16 : tie.Need-mul-t16 Inv-loop μ-loop
+mul-t16 c = search needs
 
 element-set-from-self : tie.Need-element-set-from-self Inv-loop μ-loop
 element-set-from-self c = search needs
@@ -67,21 +61,21 @@ loop-less c = search needs
 
 loop-again : tie.Need-loop-again Inv-loop μ-loop
 loop-again c =
-    let a = c .before .before .before .before .before .before .before .args in
+    let a = c .before .before .before .before .before .before .args in
     let l = c .before .before .before .before .loop in
-    let mine = sym (c .before .is-about .ensures) in
+    let mine = sym (rw (c .before .before .before .before .before .key-of .ensures) at (c .before .is-about .ensures)) in
     let next : c .if1 .self ≡ endedBy (key (a .e .kind)) (l .i) (a .e) (l .self) =
     ⊎-elim
     (λ t. t .3 ∙ sym (rw (mine ∙ t .0 .taken, t .2 .ensures, add-zero (l .self .used - getD (l .self .entries) (l .i) blank .units))))
     (λ t. t .1 ∙ sym (rw (mine ∙ t .0 .left)))
     (c .if1 .came) in
-    (omega arith, next ∙ ap (endedBy (key (a .e .kind)) (l .i) (a .e)) (l .inv .1) ∙ partly-next (a .e) (a .t1) (c .before .before .before .before .before .before .before .pre .1) (l .i) (c .before .before .before .loop-test .taken))
+    (omega arith, next ∙ ap (endedBy (key (a .e .kind)) (l .i) (a .e)) (l .inv .1) ∙ partly-next (a .e) (a .t1) (c .before .before .before .before .before .before .pre .1) (l .i) (c .before .before .before .loop-test .taken))
 
 returns : tie.Need-returns Inv-loop μ-loop
 returns c =
     let all : c .before .loop .i ≡ 64 = omega arith in
-    let a = c .before .before .before .before .args in
-    rw all at (c .before .loop .inv .1) ∙ partly-all (a .e) (a .t1) (c .before .before .before .before .pre .1)
+    let a = c .before .before .before .args in
+    rw all at (c .before .loop .inv .1) ∙ partly-all (a .e) (a .t1) (c .before .before .before .pre .1)
 
 pub reset-spec : {M : Type 1} → statement M
 reset-spec =
@@ -89,16 +83,14 @@ reset-spec =
     (tie.spec
     Inv-loop
     μ-loop
-    cast-kind
-    mul-key
-    array-copy-out-key
+    key-of-requires
     loop-holds
     mul-r
     element-copy-out-r
     is-about-requires
     sub-self
     blank-requires
-    mul-t40
+    mul-t16
     element-set-from-self
     add-i
     loop-less

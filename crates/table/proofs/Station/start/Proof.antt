@@ -4,7 +4,7 @@ use mathlib.Core.Path.{_≡_, _∙_, sym}
 use native.Mathlib.Nat.{add-zero}
 use native.Mathlib.Omega.{arith}
 use Rattle.table.specs.declared.Found.the-variants.{At}
-use Rattle.table.specs.Numbers.{isFree}
+use Rattle.handover.specs.Numbers.{isFree}
 use Rattle.table.specs.Table.{find}
 use Rattle.table.proofs.Placing.{found-place}
 use borrow.Author.Needs.{needs}

@@ -8,7 +8,7 @@ use lib.Dec.{leb, eqb}
 use lib.Seq.{take-nil}
 use Rattle.laws.proofs.Tests.{by-cases, neither}
 use Rattle.records.specs.declared.Record.{Record}
-use Rattle.table.specs.Fields.{wellFormed}
+use Rattle.fields.specs.Fields.{wellFormed}
 use Rattle.table.specs.Sound.{Sound}
 use Rattle.table.specs.Step.{complete}
 use Rattle.table.proofs.Forms.{kind-small}

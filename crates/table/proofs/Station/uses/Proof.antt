@@ -3,7 +3,7 @@ use Prim.Native.Nat.{_≤_, _-_}
 use mathlib.Core.Path.{_≡_, refl, _∙_, sym}
 use native.Mathlib.Omega.{arith}
 use lib.ListN.{drop}
-use Rattle.table.specs.Numbers.{anyOf, ownIs}
+use Rattle.handover.specs.Numbers.{anyOf, ownIs}
 use Rattle.table.proofs.Finding.{any-here, any-past, any-end}
 use borrow.Author.Needs.{needs}
 use Rattle.table.proofs.Station.uses.Statement.{statement}

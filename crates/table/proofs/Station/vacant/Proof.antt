@@ -4,7 +4,7 @@ use Prim.Native.Nat.{_≤_, _-_}
 use mathlib.Core.Path.{_≡_, refl, sym}
 use native.Mathlib.Omega.{arith}
 use lib.ListN.{drop}
-use Rattle.table.specs.Numbers.{isFree}
+use Rattle.handover.specs.Numbers.{isFree}
 use Rattle.table.specs.Table.{find, findFrom}
 use Rattle.table.proofs.Finding.{find-here, find-past, find-end}
 use borrow.Author.Needs.{needs}

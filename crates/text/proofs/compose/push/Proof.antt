@@ -16,7 +16,7 @@ takes-digit-requires : tie.Need-takes-digit-requires
 takes-digit-requires c κs = search needs
 
 returns : tie.Need-returns
-returns c = cc
+returns c = rw (c .before .before .before .before .stored .ensures, c .before .before .before .longer .ensures, c .before .before .grown .ensures, c .before .takes-digit .ensures)
 
 pub push-spec : {M : Type 1} → statement M
 push-spec =
