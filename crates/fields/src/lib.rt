@@ -1,36 +1,57 @@
-// Which fields a kind uses, and in what range.
+// What sort of event a kind is, which fields it uses, and in what range.
 use records::Record;
 ghost use mathlib.Core.Path.{_≡_};
+ghost use mathlib.Core.Bool.{cond};
 ghost use lib.ListN.{getD};
-ghost use Rattle.fields.specs.Fields.{isKind, isFilled, inRange, idsInRange, valuesInRange, othersZero, wellFormed};
+ghost use Rattle.fields.specs.Fields.{rowOf, isFilled, inRange, idsInRange, valuesInRange, othersZero, formedBy, sortOfEvent};
 
-// 1 for a field that a kind uses: neighbour, Old, New, first set, second set, reason, number, time.
-const USES: [[u8; 8]; 18] = [
-    [0, 0, 0, 0, 0, 0, 0, 0], // 0 no kind
-    [1, 1, 0, 0, 0, 0, 1, 0], // 1 handover request received
-    [1, 1, 1, 1, 1, 0, 0, 0], // 2 request acknowledge received
-    [1, 1, 0, 0, 0, 1, 0, 0], // 3 preparation failure received
-    [1, 1, 1, 1, 0, 0, 0, 0], // 4 SN status transfer received
-    [1, 1, 1, 0, 0, 0, 0, 0], // 5 UE context release received
-    [1, 1, 1, 0, 0, 1, 0, 0], // 6 handover cancel received
-    [1, 0, 0, 0, 0, 0, 0, 0], // 7 reset request received
-    [1, 0, 0, 0, 0, 0, 0, 0], // 8 reset response received
-    [1, 0, 0, 1, 0, 0, 0, 0], // 9 start a handover
-    [0, 1, 0, 0, 0, 0, 0, 0], // 10 cancel
-    [0, 0, 1, 0, 0, 0, 0, 0], // 11 UE arrived
-    [0, 1, 0, 0, 0, 0, 0, 0], // 12 UE returned
-    [0, 0, 1, 0, 0, 0, 0, 0], // 13 UE left
-    [1, 0, 0, 0, 0, 0, 0, 0], // 14 reset a neighbour
-    [0, 0, 0, 0, 0, 0, 0, 1], // 15 tick
-    [0, 0, 0, 0, 0, 0, 0, 0], // 16 bearer
-    [0, 1, 0, 1, 0, 0, 0, 0], // 17 send SN status
+// The sorts of events: none by itself; about one record of the table; about all outgoing and held records of a neighbour; about
+// the soonest record that is due; one that makes a record; a request; one that is taken and changes nothing.
+pub const NO_EVENT: u8 = 0;
+
+pub const ONE_RECORD: u8 = 1;
+
+pub const ALL_OF_NEIGHBOUR: u8 = 2;
+
+pub const SOONEST_DUE: u8 = 3;
+
+pub const NEW_RECORD: u8 = 4;
+
+pub const REQUEST: u8 = 5;
+
+pub const NO_CHANGE: u8 = 6;
+
+// How many kinds there are, the one that is none counted too.
+const KINDS: usize = 18;
+
+// By kind: 1 for a field that it uses (neighbour, Old, New, first set, second set, reason, number, time), then its sort.
+const USES: [[u8; 9]; KINDS] = [
+    [0, 0, 0, 0, 0, 0, 0, 0, NO_EVENT], // 0 no kind
+    [1, 1, 0, 0, 0, 0, 1, 0, REQUEST], // 1 handover request received
+    [1, 1, 1, 1, 1, 0, 0, 0, ONE_RECORD], // 2 request acknowledge received
+    [1, 1, 0, 0, 0, 1, 0, 0, ONE_RECORD], // 3 preparation failure received
+    [1, 1, 1, 1, 0, 0, 0, 0, ONE_RECORD], // 4 SN status transfer received
+    [1, 1, 1, 0, 0, 0, 0, 0, ONE_RECORD], // 5 UE context release received
+    [1, 1, 1, 0, 0, 1, 0, 0, ONE_RECORD], // 6 handover cancel received
+    [1, 0, 0, 0, 0, 0, 0, 0, ALL_OF_NEIGHBOUR], // 7 reset request received
+    [1, 0, 0, 0, 0, 0, 0, 0, NO_CHANGE], // 8 reset response received
+    [1, 0, 0, 1, 0, 0, 0, 0, NEW_RECORD], // 9 start a handover
+    [0, 1, 0, 0, 0, 0, 0, 0, ONE_RECORD], // 10 cancel
+    [0, 0, 1, 0, 0, 0, 0, 0, ONE_RECORD], // 11 UE arrived
+    [0, 1, 0, 0, 0, 0, 0, 0, ONE_RECORD], // 12 UE returned
+    [0, 0, 1, 0, 0, 0, 0, 0, ONE_RECORD], // 13 UE left
+    [1, 0, 0, 0, 0, 0, 0, 0, ALL_OF_NEIGHBOUR], // 14 reset a neighbour
+    [0, 0, 0, 0, 0, 0, 0, 1, SOONEST_DUE], // 15 tick
+    [0, 0, 0, 0, 0, 0, 0, 0, NO_EVENT], // 16 bearer
+    [0, 1, 0, 1, 0, 0, 0, 0, ONE_RECORD], // 17 send SN status
 ];
 
-// Kinds 1 to 15 and 17.
-fn is_kind(kind: u8) -> bool
-    ensures { λ r. ⌜ r ≡ isKind kind ⌝ }
+// A kind's row of that table; that of no kind for a number that is none.
+fn row_of(kind: u8) -> [u8; 9]
+    ensures { λ r. ⌜ r ≡ rowOf kind ⌝ }
 {
-    ((1 <= kind) & (kind <= 15)) | (kind == 17)
+    let row = kind as usize;
+    if row < KINDS { USES[row] } else { [0; 9] }
 }
 
 // A start's set is not empty, a request's count not 0.
@@ -48,7 +69,7 @@ fn in_range(used: u8, most: u64, value: u64) -> bool
 }
 
 // The neighbour and the IDs are in range.
-fn ids_in_range(e: Record, uses: [u8; 8]) -> bool
+fn ids_in_range(e: Record, uses: [u8; 9]) -> bool
     ensures { λ r. ⌜ r ≡ idsInRange (λ k. getD uses k 0) e ⌝ }
 {
     in_range(uses[0], 31, e.neighbour as u64)
@@ -57,7 +78,7 @@ fn ids_in_range(e: Record, uses: [u8; 8]) -> bool
 }
 
 // The sets, the reason, the number and the time are in range.
-fn values_in_range(e: Record, uses: [u8; 8]) -> bool
+fn values_in_range(e: Record, uses: [u8; 9]) -> bool
     ensures { λ r. ⌜ r ≡ valuesInRange (λ k. getD uses k 0) e ⌝ }
 {
     in_range(uses[3], 65535, e.first as u64)
@@ -79,18 +100,25 @@ fn others_zero(e: Record) -> bool
         & (e.bytes28 == 0)
 }
 
-// Whether an event is well formed, a request's bearers apart.
-pub fn well_formed(e: Record) -> bool
-    ensures { λ r. ⌜ r ≡ wellFormed e ⌝ }
+// Whether an event is well formed, a request's bearers apart, by its kind's row.
+fn well_formed(e: Record, row: [u8; 9]) -> bool
+    ensures { λ r. ⌜ r ≡ formedBy (λ k. getD row k 0) e ⌝ }
 {
-    let kind = e.kind as usize;
-    if 17 < kind {
-        return false;
-    }
-    let uses = USES[kind];
-    is_kind(e.kind)
-        & ids_in_range(e, uses)
-        & values_in_range(e, uses)
+    !(row[8] == NO_EVENT)
+        & ids_in_range(e, row)
+        & values_in_range(e, row)
         & others_zero(e)
         & is_filled(e)
+}
+
+// What sort of event a record is: none if it is malformed, a request's bearers apart.
+pub fn sort_of(e: Record) -> u8
+    ensures { λ r. ⌜ r ≡ sortOfEvent e ⌝ }
+{
+    let row = row_of(e.kind);
+    if well_formed(e, row) {
+        row[8]
+    } else {
+        NO_EVENT
+    }
 }

@@ -2,14 +2,14 @@
 use Prim.Native.Nat.{ℕ}
 use mathlib.Core.Bool.{Bool, cond, not, _&&_, _||_}
 use mathlib.Core.List.{List, [], _∷_}
-use lib.Dec.{leb, eqb}
-use lib.ListN.{getD}
+use lib.Dec.{leb, ltb, eqb}
+use lib.ListN.{getD, replicate}
 use Rattle.records.specs.Record.{zeros}
 use Rattle.records.specs.declared.Record.{Record}
 use Rattle.sets.specs.Sets.{union, disjoint, within}
 use Rattle.handover.specs.declared.Decision.{Decision}
 use Rattle.handover.specs.declared.Entry.{Entry}
-use Rattle.handover.specs.Numbers.{blank}
+use Rattle.handover.specs.Numbers.{blank, own}
 
 -- ---- the record an event is about
 
@@ -37,8 +37,12 @@ keys =
     ∷ (1 ∷ 2 ∷ 0 ∷ 1 ∷ 0 ∷ [])
     ∷ []
 
+-- a kind's row; a number that is no kind has one of zeros
+abbrev pub keyRow : ℕ → List ℕ
+keyRow kind = getD keys kind (replicate 5 0)
+
 abbrev pub key : ℕ → ℕ → ℕ
-key kind column = getD (getD keys kind []) column 0
+key kind column = getD (keyRow kind) column 0
 
 -- whether the New ID is the record's, where it is compared
 abbrev pub newFits : ℕ → Record → Entry → Bool
@@ -53,6 +57,13 @@ keyed by e r =
 
 abbrev pub about : Record → Entry → Bool
 about e r = keyed (key (e .kind)) e r
+
+-- "of the records with deadline not above it, the least deadline, then least own ID"
+abbrev pub dueBy : (ℕ → ℕ) → Record → Entry → Bool
+dueBy by e r = keyed by e r && leb (r .deadline) (e .time)
+
+abbrev pub sooner : Entry → Entry → Bool
+sooner a b = ltb (a .deadline) (b .deadline) || eqb (a .deadline) (b .deadline) && ltb (own a) (own b)
 
 -- ---- what it does
 
@@ -83,6 +94,13 @@ actions =
 
 abbrev pub actionOf : ℕ → ℕ → ℕ
 actionOf kind state = getD (getD actions kind []) state 0
+
+-- "7 and 14: all outgoing and held records of that neighbour end": whether a record does
+abbrev pub resetsBy : (ℕ → ℕ) → Record → Entry → Bool
+resetsBy by e r = keyed by e r && eqb (actionOf (e .kind) (r .state)) 10
+
+abbrev pub resets : Record → Entry → Bool
+resets e r = resetsBy (key (e .kind)) e r
 
 -- a message: its kind, the neighbour it goes to, Old, New, first and second set, reason; "none is all zeros"
 abbrev pub message : ℕ → ℕ → ℕ → ℕ → ℕ → ℕ → ℕ → Record

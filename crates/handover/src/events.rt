@@ -2,20 +2,25 @@
 use crate::Decision;
 use crate::Entry;
 use crate::numbers::blank;
+use crate::numbers::own;
 use records::NewId;
 use records::OldId;
 use records::Record;
 ghost use mathlib.Core.Path.{_≡_};
-ghost use Prim.Native.Nat.{_<_};
-ghost use mathlib.Core.Bool.{cond};
-ghost use mathlib.Core.List.{[]};
+ghost use mathlib.Core.Bool.{cond, _&&_, _||_};
 ghost use lib.Dec.{eqb};
 ghost use lib.ListN.{getD};
-ghost use Rattle.handover.specs.Events.{newFits, keyed, keys, message as messageOf, silence as silenceOf, listsFit, setFits, refusal as refusalOf, decision, prepared, stored, serving, lastWord, decide as decideOf};
+ghost use Rattle.handover.specs.Numbers.{isFree};
+ghost use Rattle.handover.specs.Events.{newFits, keyed, keyRow, actionOf, resetsBy, dueBy, sooner, message as messageOf, silence as silenceOf, listsFit, setFits, refusal as refusalOf, decision, prepared, stored, serving, lastWord, decide as decideOf};
+
+// How many kinds there are, and how many states, the one that is none counted too.
+const KINDS: usize = 18;
+
+const STATES: usize = 5;
 
 // The record that an event of a kind is about: the first and the last of the states looked at; whether neighbour, Old and New
 // are compared (New: 2 if the record is prepared, 3 unless it is absent).
-const KEYS: [[u8; 5]; 18] = [
+const KEYS: [[u8; 5]; KINDS] = [
     [0, 0, 0, 0, 0], // 0 no kind
     [3, 3, 1, 1, 0], // 1 handover request received
     [1, 2, 1, 1, 0], // 2 request acknowledge received
@@ -37,8 +42,14 @@ const KEYS: [[u8; 5]; 18] = [
 ];
 
 // What a record does, by the event's kind and its own state: 0 does not take it; 1 to 10 the endings; 11 prepared, 12 status
-// stored, 13 status sent, 14 started, 15 held.
-const ACTIONS: [[u8; 5]; 18] = [
+// stored, 13 status sent, 14 started, 15 held. A free place is where a record is started or held.
+const RESET: u8 = 10;
+
+pub const STARTED: u8 = 14;
+
+pub const HELD: u8 = 15;
+
+const ACTIONS: [[u8; STATES]; KINDS] = [
     [0, 0, 0, 0, 0], // 0 no kind
     [15, 0, 0, 0, 0], // 1 handover request received
     [0, 11, 0, 0, 0], // 2 request acknowledge received
@@ -59,13 +70,27 @@ const ACTIONS: [[u8; 5]; 18] = [
     [0, 0, 13, 0, 0], // 17 send SN status
 ];
 
-// A kind's row of that table.
+// A kind's row of the first table; one of zeros for a number that is no kind.
 pub fn key_of(kind: u8) -> [u8; 5]
-    requires { ⌜ kind < 18 ⌝ }
-    ensures { λ r. ⌜ r ≡ getD keys kind [] ⌝ }
+    ensures { λ r. ⌜ r ≡ keyRow kind ⌝ }
 {
     let row = kind as usize;
-    KEYS[row]
+    if row < KINDS { KEYS[row] } else { [0; 5] }
+}
+
+// What a record in a state does with an event of a kind: nothing with one that is no kind.
+pub fn action_of(kind: u8, state: u8) -> u8
+    ensures { λ r. ⌜ r ≡ actionOf kind state ⌝ }
+{
+    let row = kind as usize;
+    let column = state as usize;
+    if KINDS <= row {
+        return 0;
+    }
+    if STATES <= column {
+        return 0;
+    }
+    ACTIONS[row][column]
 }
 
 // Whether the New ID is the record's, where it is compared.
@@ -89,6 +114,29 @@ pub fn is_about(e: Record, r: Entry, key: [u8; 5]) -> bool
         return false;
     }
     (key[0] <= r.state) & (r.state <= key[1]) & ((key[2] == 0) | (r.neighbour == e.neighbour))
+}
+
+// Whether a reset ends a record, by both tables.
+pub fn is_reset(e: Record, r: Entry, key: [u8; 5]) -> bool
+    ensures { λ x. ⌜ x ≡ resetsBy (λ k. getD key k 0) e r ⌝ }
+{
+    if !is_about(e, r, key) {
+        return false;
+    }
+    action_of(e.kind, r.state) == RESET
+}
+
+// Whether a record is due, and sooner than the best so far. Most are not due: that is looked at first.
+pub fn is_sooner(e: Record, key: [u8; 5], r: Entry, best: Entry) -> bool
+    ensures { λ x. ⌜ x ≡ (dueBy (λ k. getD key k 0) e r && (isFree best || sooner r best)) ⌝ }
+{
+    if e.time < r.deadline {
+        return false;
+    }
+    let mine = own(r);
+    let its = own(best);
+    let sooner = (r.deadline < best.deadline) | ((r.deadline == best.deadline) & (mine < its));
+    is_about(e, r, key) & ((best.state == 0) | sooner)
 }
 
 // A message: its kind, the neighbour it goes to, and the fields that kinds use.
@@ -178,12 +226,9 @@ fn last_word(e: Record, r: Entry) -> Record
 
 // What an event does to the record that it is about; the deadline is what an acknowledge would set.
 pub fn decide(e: Record, r: Entry, deadline: u64) -> Decision
-    requires { ⌜ (e .kind < 18) × (r .state < 5) ⌝ }
     ensures { λ d. ⌜ d ≡ decideOf e r deadline ⌝ }
 {
-    let kind = e.kind as usize;
-    let state = r.state as usize;
-    let action = ACTIONS[kind][state];
+    let action = action_of(e.kind, r.state);
     if action == 0 {
         refusal(6, r)
     } else if action == 11 {

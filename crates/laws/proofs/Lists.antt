@@ -1,7 +1,7 @@
 -- Facts about lists that the kit's library lacks.
 use mathlib.Core.Path.{_≡_, refl}
-use mathlib.Core.List.{List, _++_, append-nil, append-assoc}
-use Prim.Native.Nat.{ℕ, zero, suc, _+_, _-_}
+use mathlib.Core.List.{List, [], _∷_, _++_, append-nil, append-assoc}
+use Prim.Native.Nat.{ℕ, zero, suc, _+_, _-_, _<_}
 use native.Mathlib.Nat.{add-zero, add-sub-cancel-left}
 use native.Mathlib.Omega.{arith}
 use lib.ListN.{length, take, drop, getD, replicate, drop-of-length-le}
@@ -24,3 +24,9 @@ pub same-everywhere : {A : Type 0} (n k : ℕ) (x : A) → getD (replicate n x) 
 same-everywhere zero k x = refl
 same-everywhere (suc n) zero x = refl
 same-everywhere (suc n) (suc k) x = same-everywhere n k x
+
+-- Within a list it does not matter what is read beyond it.
+pub read-inside : {A : Type 0} (xs : List A) (i : ℕ) (d e : A) → i < length xs → getD xs i d ≡ getD xs i e
+read-inside [] i d e h = absurd (omega arith)
+read-inside (x ∷ xs) zero d e h = refl
+read-inside (x ∷ xs) (suc i) d e h = read-inside xs i d e (omega arith)

@@ -15,7 +15,7 @@ use Rattle.table.specs.declared.Answer.{Answer}
 use Rattle.table.specs.declared.Station.{Station}
 use Rattle.handover.specs.Numbers.{nextAfter}
 use Rattle.promises.specs.Views.{count, times, ids, last, Walk, land, pass, Issues, IssuesNone, Laws}
-use Rattle.table.proofs.Issuing.{next-small}
+use Rattle.handover.proofs.Issuing.{next-small}
 use Rattle.pair.specs.World.{Numbers, nextIssue, issuing}
 use Rattle.pair.proofs.Ring.{distance, ahead, distance-self, distance-range, distance-next, distance-step, count-length, ahead-step}
 

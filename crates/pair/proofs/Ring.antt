@@ -11,7 +11,7 @@ use lib.ListN.{length}
 use Rattle.laws.proofs.Tests.{by-cases}
 use Rattle.handover.specs.Numbers.{nextAfter}
 use Rattle.promises.specs.Views.{count, times}
-use Rattle.table.proofs.Issuing.{next-small}
+use Rattle.handover.proofs.Issuing.{next-small}
 
 -- so many steps up from c to i: 1 to 4,096, and 4,096 from one to itself
 abbrev pub distance : ℕ → ℕ → ℕ

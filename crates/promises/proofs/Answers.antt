@@ -25,7 +25,7 @@ use Rattle.table.specs.Table.{find, put}
 use Rattle.promises.specs.Views.{NotOut, Preparing, Prepared, someOut, outOf, dueOf, named, out, due, ending}
 use Rattle.promises.proofs.Bounds.{bounded}
 use Rattle.table.proofs.Counting.{own-is}
-use Rattle.table.proofs.Forms.{used-in-range}
+use Rattle.fields.proofs.Forms.{used-in-range}
 use Rattle.table.proofs.Finding.{by-found, found-here, found-none, set-each}
 use Rattle.promises.proofs.Orderless.{about-once}
 use Rattle.table.proofs.Placing.{found-place}

@@ -14,7 +14,7 @@ use Rattle.table.specs.Step.{issue, started, heldFor}
 use Rattle.table.specs.Table.{add}
 use Rattle.table.proofs.Counting.{issue-small}
 use Rattle.table.proofs.Finding.{found-here, set-each}
-use Rattle.table.proofs.Forms.{neighbour-within, old-within, new-within}
+use Rattle.fields.proofs.Forms.{neighbour-within, old-within, new-within}
 use Rattle.table.proofs.Soundness.{born-as, sound}
 use Rattle.promises.proofs.Turns.{Turn, starts, admits, turns, Change, stays, stores, prepares, serves, ends, turn}
 

@@ -24,8 +24,8 @@ use Rattle.handover.specs.Numbers.{isFree, blank, ownIs, anyOf, nextAfter, issu
 use Rattle.table.specs.Reached.{Reached, born, stepped}
 use Rattle.table.specs.Step.{stepOf, issue, birthOf}
 use Rattle.table.specs.Table.{find, findFrom, dueFrom}
-use Rattle.table.proofs.Forms.{used-in-range}
-use Rattle.table.proofs.Issuing.{issue-free, issue-used}
+use Rattle.fields.proofs.Forms.{used-in-range}
+use Rattle.handover.proofs.Issuing.{issue-free, issue-used}
 use Rattle.promises.proofs.Rows.{row-step, start-step}
 use Rattle.promises.specs.Cases.{Seen, Case, freshly, preparing, stationWith, issuedLast, startOf, bytesIn, runs, Holds, numbered, request, start, cancel, cases, noCase}
 

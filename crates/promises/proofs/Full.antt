@@ -14,7 +14,7 @@ use Rattle.handover.specs.declared.Entry.{Entry}
 use Rattle.table.specs.declared.Found.the-variants.{At, Nothing}
 use Rattle.table.specs.declared.Station.{Station}
 use Rattle.handover.specs.Events.{about}
-use Rattle.fields.specs.Fields.{isKind, wellFormed}
+use Rattle.fields.specs.Fields.{noEvent, sortOf, wellFormed}
 use Rattle.handover.specs.Numbers.{isFree}
 use Rattle.table.specs.Sound.{Sound}
 use Rattle.table.specs.Step.{refused, failure, admission, taken, complete, stepOf}
@@ -84,5 +84,5 @@ module _ (s : Station) (sound : Sound s) where
         (λ t. rw (grant-step s e bearers room formed kind whole i new found t) (eqb-false 0 4 refl)))
 
 -- "A kind 16 elsewhere is malformed", and so is any other that is not 1 to 15 or 17.
-pub no-kind-step : (s : Station) (e : Record) (bearers : List ℕ) (room : ℕ) → isKind (e .kind) ≡ false → stepOf s e bearers room ≡ refused 1 s
+pub no-kind-step : (s : Station) (e : Record) (bearers : List ℕ) (room : ℕ) → sortOf (e .kind) ≡ noEvent → stepOf s e bearers room ≡ refused 1 s
 no-kind-step s e bearers room t = rw t

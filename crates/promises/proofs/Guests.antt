@@ -22,10 +22,10 @@ module _ (s : Station) (e : Record) (i : ℕ) (live : isFree (getD (s .entries) 
   part-keeps (as-grant k _ _ _ _ free) =
       getD-set-other (s .entries) k i _ blank (λ here. true≢false (sym (found-here isFree s k free .1) ∙ rw here at live))
   part-keeps (as-start k _ nine _) = absurd (omega arith)
-  part-keeps (as-reset kinds) = absurd (false≢true (rw one at kinds))
+  part-keeps (as-reset kinds) = absurd (omega (arith, rw one at kinds))
   part-keeps (as-idle _ _) = refl
   part-keeps (as-tick k _ fifteen _) = absurd (omega arith)
-  part-keeps (as-event k _ single _) = absurd (true≢false (rw one at (single .request)))
+  part-keeps (as-event k _ single _) = absurd (omega (arith, rw one at single))
 
   -- No record changes at a request, whoever sent it.
   pub request-keeps : getD (stepOf s e bearers room .station .entries) i blank ≡ getD (s .entries) i blank

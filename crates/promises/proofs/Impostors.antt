@@ -72,7 +72,7 @@ module _ (s : Station) (e : Record) (bearers : List ℕ) (room : ℕ) (one : e .
   part-counted (as-reset _) = none-counted
   part-counted (as-idle _ _) = none-counted
   part-counted (as-tick i _ fifteen _) = absurd (omega arith)
-  part-counted (as-event i _ single _) = absurd (true≢false (rw one at (single .request)))
+  part-counted (as-event i _ single _) = absurd (omega (arith, rw one at single))
 
   pub request-counted : Counted (stepOf s e bearers room)
   request-counted = part-counted (part s e bearers room)

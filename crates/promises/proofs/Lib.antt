@@ -5,7 +5,6 @@ pub mod Full
 pub mod Guests
 pub mod Impostors
 pub mod Interface
-pub mod Keys
 pub mod Making
 pub mod Neighbours
 pub mod Once

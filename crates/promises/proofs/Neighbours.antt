@@ -13,17 +13,18 @@ use Rattle.handover.specs.declared.Entry.{Entry}
 use Rattle.table.specs.declared.Found.{Found}
 use Rattle.table.specs.declared.Found.the-variants.{At, Nothing}
 use Rattle.table.specs.declared.Station.{Station}
-use Rattle.handover.specs.Events.{about, actionOf, decide}
-use Rattle.fields.specs.Fields.{wellFormed}
+use Rattle.handover.specs.Events.{about, actionOf, resets, decide}
+use Rattle.fields.proofs.Sorts.{every-of-sort}
+use Rattle.fields.specs.Fields.{allOfNeighbour, sortOf, wellFormed}
 use Rattle.handover.specs.Numbers.{isFree, blank}
-use Rattle.table.specs.Step.{aboutOne, isReset, stepOf}
+use Rattle.table.specs.Step.{aboutOne, stepOf}
 use Rattle.table.specs.Table.{find, reset}
-use Rattle.table.proofs.Deciding.{stands}
+use Rattle.handover.proofs.Deciding.{stands}
 use Rattle.table.proofs.Finding.{found-here, set-each}
 use Rattle.table.proofs.Fits.{decided-keeps}
-use Rattle.promises.proofs.Keys.{isOf}
+use Rattle.handover.proofs.Keys.{isOf}
 use Rattle.table.proofs.Resetting.{reset-at}
-use Rattle.promises.proofs.Rows.{reset-kind, step-reset}
+use Rattle.promises.proofs.Rows.{step-reset}
 use Rattle.promises.proofs.Strangers.{concernsNeighbour, about-of, answers-concern, step-about}
 
 -- ---- what it changes
@@ -70,7 +71,7 @@ module _ (s : Station) (e : Record) (concerns : concernsNeighbour (e .kind) ≡ 
   reset-keeps =
       record {
         others = λ i other. reset-at e s i ∙ rw (not-about e (getD (s .entries) i blank) concerns other);
-        its = λ i of. rw (reset-at e s i) (by-cases (about e (getD (s .entries) i blank)) (λ t. rw t (λ used. absurd (true≢false used))) (λ t. rw t (λ _. of)));
+        its = λ i of. rw (reset-at e s i) (by-cases (resets e (getD (s .entries) i blank)) (λ t. rw t (λ used. absurd (true≢false used))) (λ t. rw t (λ _. of)));
         clock = refl;
         last = refl;
         capacity = refl;
@@ -96,9 +97,9 @@ module _ (s : Station) (e : Record) (bearers : List ℕ) (room : ℕ) (formed : 
 
   -- A reset, and the loss of a neighbour, leave every place but that neighbour's records as it was, and the clock, the last own ID and
   -- the settings.
-  pub reset-keeps-others : isReset (e .kind) ≡ true → OthersKept (e .neighbour) s (stepOf s e bearers room .station)
+  pub reset-keeps-others : sortOf (e .kind) ≡ allOfNeighbour → OthersKept (e .neighbour) s (stepOf s e bearers room .station)
   reset-keeps-others t =
-      rw (step-reset s e bearers room formed t) (reset-keeps s e (reset-kind (λ k. concernsNeighbour k ≡ true) (e .kind) refl refl t))
+      rw (step-reset s e bearers room formed t) (reset-keeps s e (every-of-sort allOfNeighbour concernsNeighbour refl refl (e .kind) t))
 
 -- ---- what it depends on
 

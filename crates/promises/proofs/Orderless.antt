@@ -18,15 +18,15 @@ use Rattle.handover.specs.declared.Entry.{Entry}
 use Rattle.table.specs.declared.Found.{Found}
 use Rattle.table.specs.declared.Found.the-variants.{At, Nothing}
 use Rattle.table.specs.declared.Station.{Station}
-use Rattle.handover.specs.Events.{about, decide, key}
-use Rattle.fields.specs.Fields.{wellFormed}
+use Rattle.handover.specs.Events.{about, resets, decide, key}
+use Rattle.fields.specs.Fields.{allOfNeighbour, sortOf, wellFormed}
 use Rattle.handover.specs.Numbers.{isFree, blank, own}
 use Rattle.table.specs.Sound.{Sound, ownTimes, heldTimes}
-use Rattle.table.specs.Step.{aboutOne, carried, isReset, stepOf}
+use Rattle.table.specs.Step.{aboutOne, carried, stepOf}
 use Rattle.table.specs.Table.{find, put, leftOf, reset}
 use Rattle.table.proofs.Counting.{own-itself}
 use Rattle.table.proofs.Finding.{found-here, found-none, set-each}
-use Rattle.promises.proofs.Keys.{isOf, keyed-means}
+use Rattle.handover.proofs.Keys.{isOf, keyed-means}
 use Rattle.promises.proofs.Neighbours.{decide-deadline}
 use Rattle.table.proofs.Placing.{found-place}
 use Rattle.table.proofs.Resetting.{reset-at}
@@ -189,14 +189,14 @@ has-reset : (n : ℕ) (e : Record) (s t : Station) → Has n s t → Has n (rese
 has-reset n e s t has p small mine =
     let x = getD (s .entries) p blank in
     let left : isOf n (leftOf e x) ≡ true = rw (reset-at e s p) at mine in
-    by-cases (about e x) (λ u. absurd (false≢true (rw u at left)))
+    by-cases (resets e x) (λ u. absurd (false≢true (rw u at left)))
     (λ u.
     let found = has p small (rw u at left) in
     (found .0, found .1, reset-at e t (found .0) ∙ ap (leftOf e) (found .2) ∙ sym (reset-at e s p)))
 
 -- A reset, and the loss of a neighbour, are answered the same by every station, and where two have the same records of that neighbour,
 -- they have the same afterwards.
-pub reset-depends-on-none : (s t : Station) (e : Record) (bearers more : List ℕ) (room space : ℕ) → wellFormed e ≡ true → isReset (e .kind) ≡ true
+pub reset-depends-on-none : (s t : Station) (e : Record) (bearers more : List ℕ) (room space : ℕ) → wellFormed e ≡ true → sortOf (e .kind) ≡ allOfNeighbour
     → Same (e .neighbour) s t → SameAnswer (e .neighbour) (stepOf s e bearers room) (stepOf t e more space)
 reset-depends-on-none s t e bearers more room space formed kinds same =
     rw (step-reset s e bearers room formed kinds, step-reset t e more space formed kinds)

@@ -16,7 +16,7 @@ use Rattle.handover.specs.Numbers.{blank}
 use Rattle.table.specs.Sound.{Sound}
 use Rattle.table.specs.Step.{refused, carried, failure, stepOf}
 use Rattle.table.specs.Table.{at, put}
-use Rattle.table.proofs.Deciding.{decide-as}
+use Rattle.handover.proofs.Deciding.{decide-as}
 use Rattle.table.proofs.Parts.{Part, as-refusal, as-response, as-failure, as-grant, as-start, as-reset, as-idle, as-tick, as-event, part}
 use Rattle.table.proofs.Placing.{found-place}
 use Rattle.table.proofs.Resetting.{same-station}

@@ -15,15 +15,15 @@ use Rattle.handover.specs.declared.Entry.{Entry}
 use Rattle.table.specs.declared.Found.{Found}
 use Rattle.table.specs.declared.Found.the-variants.{At, Nothing}
 use Rattle.table.specs.declared.Station.{Station}
-use Rattle.handover.specs.Events.{key, about, message, silence, decision, refusal, listsFit, setFits, prepared, stored, serving, decide}
-use Rattle.fields.specs.Fields.{isKind, wellFormed}
+use Rattle.handover.specs.Events.{key, about, actionOf, message, silence, decision, refusal, listsFit, setFits, prepared, stored, serving, decide}
+use Rattle.fields.specs.Fields.{oneRecord, allOfNeighbour, sortOf, wellFormed}
+use Rattle.fields.proofs.Sorts.{every-kind}
 use Rattle.handover.specs.Numbers.{isFree, blank}
 use Rattle.table.specs.Sound.{Sound}
-use Rattle.table.specs.Step.{answer, refused, carried, aboutOne, isReset, resetOf, startAt, tickAt, tickOf, requestOf, repeatOf, admittedAt, stepOf, issue, started, failure, granted, admission, taken, complete}
+use Rattle.table.specs.Step.{answer, refused, carried, aboutOne, resetOf, starting, startAt, tickAt, repeatOf, admittedAt, bySort, stepOf, issue, started, failure, granted, admission, taken, complete}
 use Rattle.table.specs.Table.{find, soonest, at, add, reset}
 use Rattle.table.proofs.Finding.{found-here}
-use Rattle.table.proofs.Forms.{kind-small}
-use Rattle.promises.proofs.Keys.{keyed-means}
+use Rattle.handover.proofs.Keys.{keyed-means}
 use Rattle.table.proofs.Placing.{found-place}
 
 -- ---- the rows
@@ -46,6 +46,10 @@ says kind new reason r = message kind (r .neighbour) (r .old .0) new 0 0 reason
 
 abbrev untaken : Record → Entry → ℕ → Decision
 untaken e r deadline = refusal 6 r
+
+-- the last row, which is also what is read beyond it
+abbrev pub lastRow : Row
+lastRow = row 17 1 untaken
 
 -- the rows of the events about one record, the states being preparing 1, prepared 2, held 3 and serving 4
 abbrev pub rows : List Row
@@ -77,11 +81,11 @@ rows =
     ∷ row 13 3 untaken
     -- 17: prepared and the set fits: sends 4 with the set; else 7; preparing: 6
     ∷ row 17 2 (λ e r deadline. cond (setFits r e) (decision 0 0 (message 4 (r .neighbour) (r .old .0) (r .new .0) (e .first) 0 0) r) (refusal 7 r))
-    ∷ row 17 1 untaken
+    ∷ lastRow
     ∷ []
 
 -- 15, of a record that is due: preparing sends 6 with New absent, reason 2, and ends, 2; prepared sends 20 with both IDs and ends, 4;
--- held ends, 6
+-- held ends, 6, which is also what is read beyond the last
 abbrev pub dueRow : Row
 dueRow = row 15 3 (ends 6)
 
@@ -91,10 +95,6 @@ dueRows =
     ∷ row 15 2 (λ e r deadline. decision 0 4 (says 20 (r .new .0) 0 r) blank)
     ∷ dueRow
     ∷ []
-
--- what is read beyond the last: the last of these again, and of the others a row of no kind
-abbrev pub noRow : Row
-noRow = row 0 0 untaken
 
 -- ---- what is decided
 
@@ -144,8 +144,8 @@ module _ (e : Record) (r : Entry) (deadline : ℕ) where
   row-means x same kind state = rw (← kind, ← state) at same
 
   -- All rows about one record hold, by computation.
-  pub rows-hold : (n : ℕ) → e .kind ≡ getD rows n noRow .kind → r .state ≡ getD rows n noRow .state → decide e r deadline ≡ getD rows n noRow .does e r deadline
-  rows-hold n = row-means (getD rows n noRow) (same-at decided listed rows noRow n refl refl)
+  pub rows-hold : (n : ℕ) → e .kind ≡ getD rows n lastRow .kind → r .state ≡ getD rows n lastRow .state → decide e r deadline ≡ getD rows n lastRow .does e r deadline
+  rows-hold n = row-means (getD rows n lastRow) (same-at decided listed rows lastRow n refl refl)
 
   -- All rows of ticks hold, by computation.
   pub due-rows-hold : (n : ℕ) → e .kind ≡ 15 → r .state ≡ getD dueRows n dueRow .state → decide e r deadline ≡ getD dueRows n dueRow .does e r deadline
@@ -155,42 +155,29 @@ module _ (e : Record) (r : Entry) (deadline : ℕ) where
 
 -- ---- the whole answer
 
--- which part of the step an event takes, by its kind
-abbrev byKind : ℕ → Record → List ℕ → ℕ → Station → Answer
-byKind k e bearers room s =
-    cond (eqb k 1) (requestOf e bearers room s)
-    (cond (eqb k 9) (startAt e (find isFree s) s)
-    (cond (eqb k 15) (tickOf e s)
-    (cond (isReset k) (resetOf e s)
-    (cond (eqb k 8) (answer 0 0 0 silence s)
-    (aboutOne e (find (about e) s) s)))))
-
--- What holds of 7 and 14 holds of a reset's kind.
-pub reset-kind : (P : ℕ → Type 0) (k : ℕ) → P 7 → P 14 → isReset k ≡ true → P k
-reset-kind P k seven fourteen t =
-    by-cases (eqb k 7) (λ u. rw (eqb-true k 7 u) seven) (λ u. rw (eqb-true k 14 (rw u at t)) fourteen)
-
 module _ (s : Station) (e : Record) (bearers : List ℕ) (room : ℕ) (formed : wellFormed e ≡ true) where
-  -- A well-formed event takes the part of the step that its kind has.
-  pub by-kind : (k : ℕ) → e .kind ≡ k → stepOf s e bearers room ≡ byKind k e bearers room s
-  by-kind k kind = rw formed (ap (λ (n : ℕ). byKind n e bearers room s) kind)
+  -- A well-formed event does what its sort does.
+  pub by-sort : (sort : ℕ) → sortOf (e .kind) ≡ sort → stepOf s e bearers room ≡ bySort sort e bearers room s
+  by-sort sort is = rw formed (ap (λ (n : ℕ). bySort n e bearers room s) is)
+
+  by-kind : (k : ℕ) → e .kind ≡ k → stepOf s e bearers room ≡ bySort (sortOf k) e bearers room s
+  by-kind k kind = by-sort (sortOf k) (ap sortOf kind)
 
   -- An event of a row's kind is about one record.
-  about-step : (n : ℕ) → e .kind ≡ getD rows n noRow .kind → (found : Found) → find (about e) s ≡ found → stepOf s e bearers room ≡ aboutOne e found s
+  about-step : (n : ℕ) → e .kind ≡ getD rows n lastRow .kind → (found : Found) → find (about e) s ≡ found → stepOf s e bearers room ≡ aboutOne e found s
   about-step n kind found is =
-      by-kind (getD rows n noRow .kind) kind
-      ∙ same-at (λ x. byKind (x .kind) e bearers room s) (λ x. aboutOne e (find (about e) s) s) rows noRow n refl refl
+      by-sort oneRecord (ap sortOf kind ∙ same-at (λ x. sortOf (x .kind)) (λ x. oneRecord) rows lastRow n refl refl)
       ∙ ap (λ (f : Found). aboutOne e f s) is
 
   -- An event of a row's kind about a record in the row's state does what the row says, with the deadline clock plus overall.
-  pub row-step : (i n : ℕ) → e .kind ≡ getD rows n noRow .kind → find (about e) s ≡ At i → getD (s .entries) i blank .state ≡ getD rows n noRow .state
-      → stepOf s e bearers room ≡ carried i (getD rows n noRow .does e (getD (s .entries) i blank) (s .clock + s .overall)) s
+  pub row-step : (i n : ℕ) → e .kind ≡ getD rows n lastRow .kind → find (about e) s ≡ At i → getD (s .entries) i blank .state ≡ getD rows n lastRow .state
+      → stepOf s e bearers room ≡ carried i (getD rows n lastRow .does e (getD (s .entries) i blank) (s .clock + s .overall)) s
   row-step i n kind found state =
       about-step n kind (At i) found
       ∙ ap (λ (d : Decision). carried i d s) (rows-hold e (getD (s .entries) i blank) (s .clock + s .overall) n kind state)
 
   -- One that is about no record is refused with 2.
-  pub lost-step : (n : ℕ) → e .kind ≡ getD rows n noRow .kind → find (about e) s ≡ Nothing → stepOf s e bearers room ≡ refused 2 s
+  pub lost-step : (n : ℕ) → e .kind ≡ getD rows n lastRow .kind → find (about e) s ≡ Nothing → stepOf s e bearers room ≡ refused 2 s
   lost-step n kind found = about-step n kind Nothing found
 
   -- 15, at a time before the clock: 8; else the clock becomes the time, and the soonest record is looked at.
@@ -209,15 +196,15 @@ module _ (s : Station) (e : Record) (bearers : List ℕ) (room : ℕ) (formed : 
 
   -- 9: where a place is free, a preparing record with the next own ID, which sends 1 with Old and the set.
   pub start-step : (i : ℕ) → e .kind ≡ 9 → find isFree s ≡ At i → stepOf s e bearers room ≡ answer 0 0 0 (message 1 (e .neighbour) (issue s) 0 (e .first) 0 0) (add i (issue s) (started e s) s)
-  start-step i kind found = by-kind 9 kind ∙ ap (λ (f : Found). startAt e f s) found
+  start-step i kind found = by-kind 9 kind ∙ ap (λ (f : Found). startAt e f s) found ∙ ap (λ (k : ℕ). cond (eqb (actionOf k 0) 14) (starting e i s) (refused 6 s)) kind
 
   -- 9, where no place is free: 4.
   pub full-step : e .kind ≡ 9 → find isFree s ≡ Nothing → stepOf s e bearers room ≡ refused 4 s
   full-step kind found = by-kind 9 kind ∙ ap (λ (f : Found). startAt e f s) found
 
   -- 7 and 14: a reset.
-  pub step-reset : isReset (e .kind) ≡ true → stepOf s e bearers room ≡ resetOf e s
-  step-reset kinds = rw formed (reset-kind (λ k. byKind k e bearers room s ≡ resetOf e s) (e .kind) refl refl kinds)
+  pub step-reset : sortOf (e .kind) ≡ allOfNeighbour → stepOf s e bearers room ≡ resetOf e s
+  step-reset reset = by-sort allOfNeighbour reset
 
   -- 7: all outgoing and held records of the neighbour end, which sends 8 and has ending 10 even if there was none.
   pub reset-step : e .kind ≡ 7 → stepOf s e bearers room ≡ answer 0 10 0 (message 8 (e .neighbour) 0 0 0 0 0) (reset e s)
@@ -257,7 +244,7 @@ module _ (s : Station) (e : Record) (bearers : List ℕ) (room : ℕ) (formed : 
       -- 1, else: a held record with the next own ID, deadline clock plus guard, which sends 2 with both IDs and both sets.
       pub grant-step : (i : ℕ) → find (about e) s ≡ Nothing → find isFree s ≡ At i → eqb (admission (taken e bearers) s .admitted) 0 ≡ false
           → stepOf s e bearers room ≡ granted e (admission (taken e bearers) s) i s
-      grant-step i new found some = new-step new (At i) found ∙ rw some
+      grant-step i new found some = new-step new (At i) found ∙ rw some (ap (λ (k : ℕ). cond (eqb (actionOf k 0) 15) (granted e (admission (taken e bearers) s) i s) (refused 6 s)) kind)
 
 -- ---- no row is missing
 
@@ -278,10 +265,7 @@ has-at k st (x ∷ xs) d t =
     let later = has-at k st xs d (rw u at t) in
     (suc (later .0), later .1, later .2))
 
--- the kinds of events about one record, and whether an event of a kind looks at records in a state
-abbrev pub aboutRecord : ℕ → Bool
-aboutRecord k = isKind k && not (eqb k 1 || eqb k 7 || eqb k 8 || eqb k 9 || eqb k 14 || eqb k 15)
-
+-- whether an event of a kind looks at records in a state
 abbrev pub looks : ℕ → ℕ → Bool
 looks k st = leb (key k 0) st && leb st (key k 1)
 
@@ -292,17 +276,17 @@ about-looks e r t =
     rw (le-leb (key (e .kind) 0) (r .state) (keys .first), le-leb (r .state) (key (e .kind) 1) (keys .last))
 
 -- Whatever record an event about one record is about, there is a row for it.
-pub row-of : (e : Record) (r : Entry) → aboutRecord (e .kind) ≡ true → e .kind < 18 → r .state < 5 → about e r ≡ true → (n : ℕ) × (e .kind ≡ getD rows n noRow .kind) × (r .state ≡ getD rows n noRow .state)
-row-of e r kind small few t =
-    let row = below-at 18 (λ k. below 5 (λ st. not (aboutRecord k && looks k st) || has k st rows)) (e .kind) refl small in
-    let cell = below-at 5 (λ st. not (aboutRecord (e .kind) && looks (e .kind) st) || has (e .kind) st rows) (r .state) row few in
-    has-at (e .kind) (r .state) rows noRow (rw (kind, about-looks e r t) at cell)
+pub row-of : (e : Record) (r : Entry) → sortOf (e .kind) ≡ oneRecord → r .state < 5 → about e r ≡ true → (n : ℕ) × (e .kind ≡ getD rows n lastRow .kind) × (r .state ≡ getD rows n lastRow .state)
+row-of e r one few t =
+    let row = every-kind (λ k sort. below 5 (λ st. not (eqb sort oneRecord && looks k st) || has k st rows)) refl (λ j. refl) (e .kind) in
+    let cell = below-at 5 (λ st. not (eqb (sortOf (e .kind)) oneRecord && looks (e .kind) st) || has (e .kind) st rows) (r .state) row few in
+    has-at (e .kind) (r .state) rows lastRow (rw (one, about-looks e r t) at cell)
 
 -- So an event about one record that finds one does what some row says.
-pub some-row : (s : Station) → Sound s → (e : Record) → wellFormed e ≡ true → aboutRecord (e .kind) ≡ true → (i : ℕ) → find (about e) s ≡ At i
-    → (n : ℕ) × (e .kind ≡ getD rows n noRow .kind) × (getD (s .entries) i blank .state ≡ getD rows n noRow .state)
-some-row s sound e formed kind i found =
-    row-of e (getD (s .entries) i blank) kind (kind-small e formed) (sound .fit i (found-place s sound (about e) i found) .state) (found-here (about e) s i found .1)
+pub some-row : (s : Station) → Sound s → (e : Record) → sortOf (e .kind) ≡ oneRecord → (i : ℕ) → find (about e) s ≡ At i
+    → (n : ℕ) × (e .kind ≡ getD rows n lastRow .kind) × (getD (s .entries) i blank .state ≡ getD rows n lastRow .state)
+some-row s sound e one i found =
+    row-of e (getD (s .entries) i blank) one (sound .fit i (found-place s sound (about e) i found) .state) (found-here (about e) s i found .1)
 
 -- Whatever record a tick is about, there is a row for it.
 pub due-row-of : (e : Record) (r : Entry) → e .kind ≡ 15 → about e r ≡ true → (n : ℕ) × (r .state ≡ getD dueRows n dueRow .state)

@@ -20,11 +20,10 @@ use Rattle.table.specs.Reached.{Reached}
 use Rattle.table.specs.Step.{issue, stepOf, taken, admission}
 use Rattle.promises.proofs.Bounds.{Bounded, bounded}
 use Rattle.table.proofs.Counting.{issue-small}
-use Rattle.table.proofs.Deciding.{decide-as}
-use Rattle.table.proofs.Forms.{used-in-range, neighbour-within, old-within, first-within}
+use Rattle.handover.proofs.Deciding.{decide-as}
+use Rattle.fields.proofs.Forms.{used-in-range, neighbour-within, old-within, first-within}
 use Rattle.table.proofs.Parts.{Part, as-refusal, as-response, as-failure, as-grant, as-start, as-reset, as-idle, as-tick, as-event, part}
 use Rattle.table.proofs.Placing.{found-place, due-place}
-use Rattle.promises.proofs.Rows.{reset-kind}
 use Rattle.table.proofs.Soundness.{sound}
 
 abbrev Formed : Record → Type 0
@@ -74,10 +73,10 @@ module _ {s : Station} (reached : Reached s) (e : Record) (bearers : List ℕ) (
         used-in-range 65535 (a .refused) (omega arith),
       )
   part-formed (as-start i _ _ _) = λ low high. absurd (omega arith)
-  part-formed (as-reset kind) =
-      reset-kind (λ k. Formed (message (cond (eqb k 7) 8 7) (e .neighbour) 0 0 0 0 0)) (e .kind)
-      (λ low high. rw (used-in-range 31 (e .neighbour) (neighbour-within e formed)))
-      (λ low high. rw (used-in-range 31 (e .neighbour) (neighbour-within e formed))) kind
+  part-formed (as-reset _) =
+      by-cases (eqb (e .kind) 7)
+      (λ t. rw t (λ low high. rw (used-in-range 31 (e .neighbour) (neighbour-within e formed))))
+      (λ t. rw t (λ low high. rw (used-in-range 31 (e .neighbour) (neighbour-within e formed))))
   part-formed (as-idle _ _) = unsent
   part-formed (as-tick i _ _ found) = decided-formed e (getD (s .entries) i blank) 0 formed (bounded reached i (due-place s (sound reached) e i found))
   part-formed (as-event i _ _ found) = decided-formed e (getD (s .entries) i blank) _ formed (bounded reached i (found-place s (sound reached) _ i found))

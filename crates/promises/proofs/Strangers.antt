@@ -13,12 +13,13 @@ use Rattle.handover.specs.declared.Entry.{Entry}
 use Rattle.table.specs.declared.Found.{Found}
 use Rattle.table.specs.declared.Station.{Station}
 use Rattle.handover.specs.Events.{about, key}
-use Rattle.fields.specs.Fields.{wellFormed}
+use Rattle.fields.specs.Fields.{oneRecord, sortOf, wellFormed}
 use Rattle.handover.specs.Numbers.{isFree, blank}
 use Rattle.table.specs.Step.{refused, aboutOne, stepOf}
 use Rattle.table.specs.Table.{find}
 use Rattle.table.proofs.Finding.{by-found, found-here}
-use Rattle.promises.proofs.Keys.{isOf, keyed-means}
+use Rattle.promises.proofs.Rows.{by-sort}
+use Rattle.handover.proofs.Keys.{isOf, keyed-means}
 
 -- the kinds that concern a neighbour: its messages 1 to 7, and the loss of it
 abbrev pub concernsNeighbour : ℕ → Bool
@@ -52,19 +53,15 @@ about-neighbour e r concerns t =
 pub answers-concern : (k : ℕ) → 2 ≤ k → k ≤ 6 → concernsNeighbour k ≡ true
 answers-concern k low high = rw (le-leb 1 k (omega arith), le-leb k 7 (omega arith))
 
+-- And is about one record.
+answers-sort : (k : ℕ) → 2 ≤ k → k ≤ 6 → sortOf k ≡ oneRecord
+answers-sort k low high =
+    eqb-true (sortOf k) oneRecord (rw (le-leb 2 k low) at (below-at 7 (λ j. not (leb 2 j) || eqb (sortOf j) oneRecord) k refl (omega arith)))
+
 module _ (s : Station) (e : Record) (bearers : List ℕ) (room : ℕ) (formed : wellFormed e ≡ true) (low : 2 ≤ e .kind) (high : e .kind ≤ 6) where
   -- An event of these kinds is about one record.
   pub step-about : stepOf s e bearers room ≡ aboutOne e (find (about e) s) s
-  step-about =
-      rw (
-        formed,
-        ne-eqb (e .kind) 1 (λ t. omega arith),
-        ne-eqb (e .kind) 9 (λ t. omega arith),
-        ne-eqb (e .kind) 15 (λ t. omega arith),
-        ne-eqb (e .kind) 7 (λ t. omega arith),
-        ne-eqb (e .kind) 14 (λ t. omega arith),
-        ne-eqb (e .kind) 8 (λ t. omega arith),
-      )
+  step-about = by-sort s e bearers room formed oneRecord (answers-sort (e .kind) low high)
 
   -- An acknowledge, failure, status, release or cancel that matches no record of its sender is refused with 2, and changes nothing.
   pub stranger-refused :

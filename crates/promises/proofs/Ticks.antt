@@ -18,14 +18,14 @@ use Rattle.table.specs.declared.Best.{Best}
 use Rattle.handover.specs.declared.Entry.{Entry}
 use Rattle.table.specs.declared.Found.the-variants.{At, Nothing}
 use Rattle.table.specs.declared.Station.{Station}
-use Rattle.handover.specs.Events.{key, about}
+use Rattle.handover.specs.Events.{key, about, dueBy, sooner}
 use Rattle.fields.specs.Fields.{wellFormed}
 use Rattle.handover.specs.Numbers.{isFree, blank, own, anyOf}
 use Rattle.table.specs.Sound.{Sound}
 use Rattle.table.specs.Step.{refused, stepOf}
-use Rattle.table.specs.Table.{dueBy, sooner, dueFrom, soonest, at, put}
+use Rattle.table.specs.Table.{dueFrom, soonest, at, put}
 use Rattle.table.proofs.Finding.{at-nothing, by-found}
-use Rattle.promises.proofs.Keys.{keyed-means}
+use Rattle.handover.proofs.Keys.{keyed-means}
 use Rattle.promises.proofs.Rows.{early-step, tick-step, due-ends}
 use Rattle.table.proofs.Tally.{total-none-of, once-le}
 

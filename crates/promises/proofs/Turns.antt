@@ -15,22 +15,21 @@ use Rattle.handover.specs.declared.Decision.{Decision}
 use Rattle.handover.specs.declared.Entry.{Entry}
 use Rattle.table.specs.declared.Found.the-variants.{At}
 use Rattle.table.specs.declared.Station.{Station}
-use Rattle.handover.specs.Events.{key, keyed, about, actions, actionOf, message, lastWord, decide, prepared, stored, serving}
-use Rattle.fields.specs.Fields.{wellFormed}
+use Rattle.handover.specs.Events.{key, keyed, about, resets, actionOf, message, lastWord, decide, prepared, stored, serving}
+use Rattle.fields.specs.Fields.{allOfNeighbour, sortOf, wellFormed}
 use Rattle.handover.specs.Numbers.{isFree, isOutgoing, blank}
 use Rattle.table.specs.Sound.{Sound}
-use Rattle.table.specs.Step.{refused, carried, isReset, resetOf, startAt, taken, admission, granted, stepOf}
+use Rattle.table.specs.Step.{refused, carried, resetOf, starting, taken, admission, granted, stepOf}
 use Rattle.table.specs.Table.{find, at}
 use Rattle.promises.specs.Views.{sent, ending, isOtherEnding}
 use Rattle.table.proofs.Changes.{sound-at}
-use Rattle.table.proofs.Deciding.{every-action, leaves, decide-as}
+use Rattle.handover.proofs.Deciding.{every-action, leaves, decide-as}
 use Rattle.table.proofs.Finding.{found-here, set-each}
-use Rattle.table.proofs.Forms.{time-within}
-use Rattle.promises.proofs.Keys.{Keyed, keyed-means}
+use Rattle.fields.proofs.Forms.{time-within}
+use Rattle.handover.proofs.Keys.{Keyed, keyed-means}
 use Rattle.table.proofs.Parts.{Part, as-refusal, as-response, as-failure, as-grant, as-start, as-reset, as-idle, as-tick, as-event, part}
 use Rattle.table.proofs.Placing.{found-place, due-place}
 use Rattle.table.proofs.Resetting.{reset-at}
-use Rattle.promises.proofs.Rows.{reset-kind}
 use Rattle.promises.proofs.Ticks.{soonest-due}
 
 -- ---- what becomes of one record
@@ -73,7 +72,7 @@ pub record Turned (s : Station) (e : Record) (a : Answer) : Type 0 where
 
 -- a start or a request makes one, or none is made
 pub data Turn (s : Station) (e : Record) : Answer → Type 0 where
-  starts : (k : ℕ) → find isFree s ≡ At k → wellFormed e ≡ true → e .kind ≡ 9 → Turn s e (startAt e (At k) s)
+  starts : (k : ℕ) → find isFree s ≡ At k → wellFormed e ≡ true → e .kind ≡ 9 → Turn s e (starting e k s)
   admits : (k : ℕ) → find isFree s ≡ At k → wellFormed e ≡ true → e .kind ≡ 1 → (a : Admission) → Turn s e (granted e a k s)
   turns : {a : Answer} → Turned s e a → Turn s e a
 
@@ -142,14 +141,14 @@ module _ (s : Station) (e : Record) where
   refused-turned n = record { last = refl; change = λ j h. stays; says = other refl }
 
   -- A reset ends every record that it is about.
-  reset-turned : isReset (e .kind) ≡ true → Turned s e (resetOf e s)
-  reset-turned kinds =
+  reset-turned : sortOf (e .kind) ≡ allOfNeighbour → Turned s e (resetOf e s)
+  reset-turned reset =
       record {
         last = refl;
         change = λ j h.
             rw (reset-at e s j)
-            (by-cases (about e (getD (s .entries) j blank))
-            (λ t. rw t (ends (reset-kind (λ k. k ≡ 2 → ⊥) (e .kind) (λ z. omega arith) (λ z. omega arith) kinds) (by-other refl)))
+            (by-cases (resets e (getD (s .entries) j blank))
+            (λ t. rw t (ends (λ two. omega (arith, rw two at reset)) (by-other refl)))
             (λ t. rw t stays));
         says = other (by-cases (eqb (e .kind) 7) (λ t. rw t) (λ t. rw t));
       }
@@ -184,7 +183,7 @@ module _ (s : Station) (sound : Sound s) (e : Record) (bearers : List ℕ) (room
   turn-of (as-failure n _ _ one) = turns (record { last = refl; change = λ j h. stays; says = refuses n one refl })
   turn-of (as-grant k formed one _ _ free) = admits k free formed one (admission (taken e bearers) s)
   turn-of (as-start k formed nine free) = starts k free formed nine
-  turn-of (as-reset kinds) = turns (reset-turned s e kinds)
+  turn-of (as-reset reset) = turns (reset-turned s e reset)
   turn-of (as-idle _ _) = turns (record { last = refl; change = λ j h. stays; says = other refl })
   turn-of (as-tick i formed fifteen found) =
       -- the clock is no matter here

@@ -3,31 +3,32 @@ use Prim.Native.Nat.{ℕ, _+_, _≤_, _<_}
 use mathlib.Core.Path.{_≡_, refl, sym, ap, _∙_, subst}
 use mathlib.Core.Bool.{Bool, true, false, cond, not, _&&_, _||_, and-true, true≢false}
 use mathlib.Core.List.{List, [], _∷_}
-use borrow.Author.Tests.{eqb-true, eqb-false, leb-true, lt-leb, ne-eqb}
+use borrow.Author.Tests.{eqb-true, eqb-false, leb-true, lt-leb, ne-eqb, not-true}
 use native.Mathlib.Omega.{arith}
 use lib.Dec.{leb, eqb}
 use lib.ListN.{getD}
 use Rattle.laws.proofs.Sums.{total-at, total-le, total-throughout}
 use Rattle.laws.specs.Sums.{total}
-use Rattle.laws.proofs.Tests.{by-cases, both-true, neither, on-either, same-at, refuted}
+use Rattle.laws.proofs.Tests.{by-cases, both-true, neither, on-either, below, below-at, same-at, refuted}
 use Rattle.records.specs.declared.Record.{Record}
 use Rattle.table.specs.declared.Answer.{Answer}
 use Rattle.handover.specs.declared.Entry.{Entry}
 use Rattle.table.specs.declared.Found.{Found}
 use Rattle.table.specs.declared.Found.the-variants.{At}
 use Rattle.table.specs.declared.Station.{Station}
-use Rattle.handover.specs.Events.{key, keyed, about, actionOf, decide}
-use Rattle.fields.specs.Fields.{wellFormed}
+use Rattle.handover.specs.Events.{key, about, actionOf, resets, decide}
+use Rattle.fields.specs.Fields.{oneRecord, allOfNeighbour, soonestDue, newRecord, aRequest, noChange, sortOf, wellFormed}
 use Rattle.handover.specs.Numbers.{isHeld, isIncoming, blank}
+use Rattle.fields.proofs.Sorts.{every-of-sort}
 use Rattle.table.specs.Sound.{Fit, Sound}
-use Rattle.table.specs.Step.{carried, isReset, stepOf, admission, taken}
+use Rattle.table.specs.Step.{carried, stepOf, admission, taken}
 use Rattle.table.specs.Table.{find, soonest, at, backOf}
 use Rattle.promises.specs.Views.{recordAt}
-use Rattle.table.proofs.Deciding.{every-action, leaves, decide-as}
+use Rattle.handover.proofs.Deciding.{every-action, leaves, decide-as}
 use Rattle.table.proofs.Parts.{Part, as-refusal, as-response, as-failure, as-grant, as-start, as-reset, as-idle, as-tick, as-event, part}
 use Rattle.table.proofs.Placing.{found-place, due-place}
 use Rattle.table.proofs.Resetting.{back-le}
-use Rattle.promises.proofs.Rows.{reset-kind, step-reset}
+use Rattle.promises.proofs.Rows.{step-reset}
 use Rattle.promises.proofs.Ticks.{tick-handles, tick-one}
 
 -- ---- what is given out and taken back
@@ -40,19 +41,19 @@ unitsAt found s = recordAt found s .units
 abbrev pub heldUnits : Record → Entry → ℕ
 heldUnits e r = cond (isHeld r && eqb (r .neighbour) (e .neighbour)) (r .units) 0
 
--- the kinds that end no record: request, acknowledge, status, reset response, start, arrival and status to send
+-- the kinds that end no record: acknowledge, status, arrival and status to send, a request, what changes nothing, and a start
 abbrev keeps : ℕ → Bool
 keeps k = eqb k 2 || eqb k 4 || eqb k 11 || eqb k 17
 
 abbrev pub endsNone : ℕ → Bool
-endsNone k = eqb k 1 || eqb k 8 || eqb k 9 || keeps k
+endsNone k = eqb (sortOf k) aRequest || eqb (sortOf k) noChange || eqb (sortOf k) newRecord || keeps k
 
 -- what the records hold that an event of a kind ends
 abbrev pub freedBy : ℕ → Record → Station → ℕ
 freedBy k e s =
     cond (endsNone k) 0
-    (cond (eqb k 15) (unitsAt (soonest e s) s)
-    (cond (isReset k) (total (heldUnits e) (s .entries))
+    (cond (eqb (sortOf k) soonestDue) (unitsAt (soonest e s) s)
+    (cond (eqb (sortOf k) allOfNeighbour) (total (heldUnits e) (s .entries))
     (unitsAt (find (about e) s) s)))
 
 abbrev pub freed : Record → Station → ℕ
@@ -88,22 +89,47 @@ leaves-all a t =
     (λ u. absurd (true≢false (rw u at t)))
     (λ u. rw u (neither (eqb a 0 || eqb a 11 || eqb a 12 || eqb a 13) (eqb a 8) t .1))
 
+-- A kind of another sort is no request.
+no-request : (k sort : ℕ) → sortOf k ≡ sort → (aRequest ≡ sort → ⊥) → eqb k 1 ≡ false
+no-request k sort is other = ne-eqb k 1 (λ one. other (rw one at is))
+
 -- ---- resets
 
--- A reset is about the outgoing and held records of its neighbour.
-reset-about : (e : Record) (r : Entry) → isReset (e .kind) ≡ true → about e r ≡ (leb 1 (r .state) && leb (r .state) 3 && eqb (r .neighbour) (e .neighbour))
-reset-about e r = reset-kind (λ k. keyed (key k) e r ≡ x) (e .kind) same same
-  where
-    x : Bool
-    x = leb 1 (r .state) && leb (r .state) 3 && eqb (r .neighbour) (e .neighbour)
+-- A reset is none of the kinds that leave a record.
+keeps-none : (k : ℕ) → sortOf k ≡ allOfNeighbour → keeps k ≡ false
+keeps-none k reset = not-true (keeps k) (every-of-sort allOfNeighbour (λ j. not (keeps j)) refl refl k reset)
 
-    same : (x && true && true) ≡ x
-    same = and-true (x && true) ∙ and-true x
+-- By one test of the tables of keys and actions: a reset looks at outgoing and held records, compares the neighbour alone, and ends
+-- each of them.
+abbrev resetRow : ℕ → Bool
+resetRow k =
+    eqb (key k 0) 1 && eqb (key k 1) 3 && not (eqb (key k 2) 0) && eqb (key k 3) 0 && eqb (key k 4) 0
+    && below 4 (λ st. not (leb 1 st) || eqb (actionOf k st) 10)
+
+-- So it ends the outgoing and held records of its neighbour.
+reset-ends : (e : Record) (r : Entry) → sortOf (e .kind) ≡ allOfNeighbour → resets e r ≡ (leb 1 (r .state) && leb (r .state) 3 && eqb (r .neighbour) (e .neighbour))
+reset-ends e r reset =
+    let st = r .state in
+    let k = e .kind in
+    let ends = below 4 (λ j. not (leb 1 j) || eqb (actionOf k j) 10) in
+    let compared = eqb (key k 0) 1 && eqb (key k 1) 3 && not (eqb (key k 2) 0) && eqb (key k 3) 0 in
+    let six = both-true (compared && eqb (key k 4) 0) ends (every-of-sort allOfNeighbour resetRow refl refl k reset) in
+    let five = both-true compared (eqb (key k 4) 0) (six .0) in
+    let four = both-true (eqb (key k 0) 1 && eqb (key k 1) 3 && not (eqb (key k 2) 0)) (eqb (key k 3) 0) (five .0) in
+    let three = both-true (eqb (key k 0) 1 && eqb (key k 1) 3) (not (eqb (key k 2) 0)) (four .0) in
+    let two = both-true (eqb (key k 0) 1) (eqb (key k 1) 3) (three .0) in
+    rw (eqb-true (key k 0) 1 (two .0), eqb-true (key k 1) 3 (two .1), not-true (eqb (key k 2) 0) (three .1), eqb-true (key k 3) 0 (four .1), eqb-true (key k 4) 0 (five .1))
+    (by-cases (leb 1 st && leb st 3)
+    (λ t.
+    let timed = both-true (leb 1 st) (leb st 3) t in
+    let cell : eqb (actionOf k st) 10 ≡ true = rw (timed .0) at (below-at 4 (λ j. not (leb 1 j) || eqb (actionOf k j) 10) st (six .1) (omega (arith, leb-true st 3 (timed .1)))) in
+    rw (t, cell, and-true, and-true, and-true))
+    (λ t. rw t))
 
 -- Of these only the held ones have units.
-reset-held : (e : Record) (r : Entry) → isReset (e .kind) ≡ true → Fit r → backOf e r ≡ heldUnits e r
+reset-held : (e : Record) (r : Entry) → sortOf (e .kind) ≡ allOfNeighbour → Fit r → backOf e r ≡ heldUnits e r
 reset-held e r reset fit =
-    rw (reset-about e r reset)
+    rw (reset-ends e r reset)
     (by-cases (isHeld r)
     (λ t. rw (eqb-true (r .state) 3 t))
     (λ t. rw t (by-cases (leb 1 (r .state) && leb (r .state) 3 && eqb (r .neighbour) (e .neighbour))
@@ -116,9 +142,9 @@ reset-held e r reset fit =
 
 module _ (s : Station) (sound : Sound s) (e : Record) where
   -- What a reset takes back is what the held records of its neighbour have, and at most what is in use.
-  reset-back : isReset (e .kind) ≡ true → (total (backOf e) (s .entries) ≡ total (heldUnits e) (s .entries)) × (total (backOf e) (s .entries) ≤ s .used)
-  reset-back kinds = (
-    total-throughout (backOf e) (heldUnits e) (s .entries) blank (λ i h. reset-held e (getD (s .entries) i blank) kinds (sound .fit i (omega (arith, sound .places)))),
+  reset-back : sortOf (e .kind) ≡ allOfNeighbour → (total (backOf e) (s .entries) ≡ total (heldUnits e) (s .entries)) × (total (backOf e) (s .entries) ≤ s .used)
+  reset-back reset = (
+    total-throughout (backOf e) (heldUnits e) (s .entries) blank (λ i h. reset-held e (getD (s .entries) i blank) reset (sound .fit i (omega (arith, sound .places)))),
     omega (arith, sound .sum, total-le (backOf e) (λ r. r .units) (s .entries) (back-le e)),
   )
 
@@ -145,23 +171,21 @@ module _ (s : Station) (sound : Sound s) (e : Record) (bearers : List ℕ) where
   -- Every part of a step accounts for the units: a preparing record has none.
   part-accounts : {room : ℕ} {a : Answer} → Part s e bearers room a → Accounts a e bearers s
   part-accounts (as-refusal n low _) = record { units = rw (ne-eqb n 0 (λ z. omega arith)) (omega arith); nothing = λ _. refl }
-  part-accounts (as-response eight) = record { units = rw eight (omega arith); nothing = λ _. refl }
+  part-accounts (as-response idle) = record { units = rw (no-request (e .kind) noChange idle (λ same. omega arith)) (omega arith); nothing = λ _. refl }
   part-accounts (as-failure n low _ _) = record { units = rw (ne-eqb n 0 (λ z. omega arith)) (omega arith); nothing = λ _. refl }
   part-accounts (as-grant i _ one _ _ _) = record { units = rw one (omega arith); nothing = λ _. refl }
   part-accounts (as-start i _ nine _) = record { units = rw nine (omega arith); nothing = λ _. refl }
-  part-accounts (as-reset kinds) =
-      let frees : freed e s ≡ total (heldUnits e) (s .entries) = reset-kind (λ k. freedBy k e s ≡ total (heldUnits e) (s .entries)) (e .kind) refl refl kinds in
-      let other : eqb (e .kind) 1 ≡ false = reset-kind (λ k. eqb k 1 ≡ false) (e .kind) refl refl kinds in
-      record { units = rw (frees, other) (omega (arith, reset-back s sound e kinds)); nothing = λ f. absurd (true≢false f) }
+  part-accounts (as-reset reset) =
+      record { units = rw (reset, keeps-none (e .kind) reset, no-request (e .kind) allOfNeighbour reset (λ same. omega arith)) (omega (arith, reset-back s sound e reset)); nothing = λ f. absurd (true≢false f) }
   part-accounts (as-idle _ _) = record { units = omega arith; nothing = λ _. refl }
   part-accounts (as-tick i _ fifteen found) =
       carried-accounts i 0 (e .time) (due-place s sound e i found) (rw fifteen)
       (λ _. ap (λ (k : ℕ). freedBy k e s) fifteen ∙ ap (λ (f : Found). unitsAt f s) found)
   part-accounts (as-event i _ single found) =
-      carried-accounts i (s .clock + s .overall) (s .clock) (found-place s sound (about e) i found) (single .request)
+      carried-accounts i (s .clock + s .overall) (s .clock) (found-place s sound (about e) i found) (no-request (e .kind) oneRecord single (λ same. omega arith))
       (λ gone.
       let ends : keeps (e .kind) ≡ false = refuted (keeps (e .kind)) (λ t. true≢false (sym (keeps-leaves (e .kind) (getD (s .entries) i blank .state) t) ∙ gone)) in
-      rw (single .request, single .response, single .start, ends, single .tick, single .reset) (ap (λ (f : Found). unitsAt f s) found))
+      rw (single, ends) (ap (λ (f : Found). unitsAt f s) found))
 
   -- So a step changes the units in use by what it gives out and takes back, and by nothing else.
   accounts : (room : ℕ) → Accounts (stepOf s e bearers room) e bearers s
@@ -243,7 +267,7 @@ module _ (s : Station) (sound : Sound s) (e : Record) (bearers : List ℕ) (room
       subst (λ (t : Station). t .used + getD (s .entries) i blank .units ≡ s .used) (sym (tick-one e kind formed s bearers room late i found .1)) (omega (arith, sound .sum))
 
   -- A reset takes back exactly the units of the held records of that neighbour.
-  pub units-reset : wellFormed e ≡ true → isReset (e .kind) ≡ true → stepOf s e bearers room .station .used + total (heldUnits e) (s .entries) ≡ s .used
-  units-reset formed kinds =
-      subst (λ (a : Answer). a .station .used + total (heldUnits e) (s .entries) ≡ s .used) (sym (step-reset s e bearers room formed kinds))
-      (omega (arith, reset-back s sound e kinds))
+  pub units-reset : wellFormed e ≡ true → sortOf (e .kind) ≡ allOfNeighbour → stepOf s e bearers room .station .used + total (heldUnits e) (s .entries) ≡ s .used
+  units-reset formed reset =
+      subst (λ (a : Answer). a .station .used + total (heldUnits e) (s .entries) ≡ s .used) (sym (step-reset s e bearers room formed reset))
+      (omega (arith, reset-back s sound e reset))

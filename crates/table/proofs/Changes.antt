@@ -11,7 +11,7 @@ use Rattle.laws.proofs.Tests.{by-cases}
 use Rattle.records.specs.declared.Record.{Record}
 use Rattle.handover.specs.declared.Entry.{Entry}
 use Rattle.table.specs.declared.Station.{Station}
-use Rattle.handover.specs.Events.{about}
+use Rattle.handover.specs.Events.{resets}
 use Rattle.handover.specs.Numbers.{isFree, blank}
 use Rattle.table.specs.Sound.{Fit, Sound, ownTimes, heldTimes}
 use Rattle.table.specs.Table.{at, put, add, leftOf, backOf, reset}
@@ -110,14 +110,14 @@ module _ (s : Station) (sound : Sound s) where
       }
     where
       left-fits : (r : Entry) → Fit r → Fit (leftOf e r)
-      left-fits r fit = by-cases (about e r) (λ t. rw t fit-blank) (λ t. rw t fit)
+      left-fits r fit = by-cases (resets e r) (λ t. rw t fit-blank) (λ t. rw t fit)
 
       fewer : (f : Entry → ℕ) → f blank ≡ 0 → total f (map (leftOf e) (s .entries)) ≤ total f (s .entries)
       fewer f none =
           rw (total-map f (leftOf e) (s .entries))
-          (total-le (λ r. f (leftOf e r)) f (s .entries) (λ r. by-cases (about e r) (λ t. rw t (omega arith)) (λ t. rw t (omega arith))))
+          (total-le (λ r. f (leftOf e r)) f (s .entries) (λ r. by-cases (resets e r) (λ t. rw t (omega arith)) (λ t. rw t (omega arith))))
 
       parts : total (λ r. r .units) (s .entries) ≡ total (backOf e) (s .entries) + total (λ r. r .units) (map (leftOf e) (s .entries))
       parts =
-          let each = total-equal (λ r. r .units) (λ r. backOf e r + leftOf e r .units) (s .entries) (λ r. by-cases (about e r) (λ t. rw t (omega arith)) (λ t. rw t (omega arith))) in
+          let each = total-equal (λ r. r .units) (λ r. backOf e r + leftOf e r .units) (s .entries) (λ r. by-cases (resets e r) (λ t. rw t (omega arith)) (λ t. rw t (omega arith))) in
           omega (arith, total-add (backOf e) (λ r. leftOf e r .units) (s .entries), total-map (λ r. r .units) (leftOf e) (s .entries))

@@ -18,7 +18,7 @@ use Rattle.handover.specs.Numbers.{isFree, blank, own, ownIs, anyOf, nextAfter,
 use Rattle.table.specs.Sound.{Fit, Sound, ownTimes}
 use Rattle.table.specs.Step.{issue}
 use Rattle.table.specs.Table.{find}
-use Rattle.table.proofs.Issuing.{next-small}
+use Rattle.handover.proofs.Issuing.{next-small}
 use Rattle.table.proofs.Tally.{total-any, total-found, total-none-of, once-le}
 
 -- ---- numbers one after the other

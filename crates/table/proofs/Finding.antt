@@ -1,4 +1,4 @@
--- How a walk over the table goes on from a place, what it finds, and what stands at each place once one record is replaced.
+-- What is found in a table, and what stands at each place once one record is replaced.
 use Prim.Native.Nat.{ℕ, suc, _+_, _≤_, _<_}
 use mathlib.Core.Path.{_≡_, refl, sym, _∙_}
 use mathlib.Core.Bool.{Bool, true, false, _&&_, _||_}
@@ -16,52 +16,9 @@ use Rattle.handover.specs.declared.Entry.{Entry}
 use Rattle.table.specs.declared.Found.{Found}
 use Rattle.table.specs.declared.Found.the-variants.{At, Nothing}
 use Rattle.table.specs.declared.Station.{Station}
-use Rattle.handover.specs.Events.{key}
+use Rattle.handover.specs.Events.{key, dueBy, sooner}
 use Rattle.handover.specs.Numbers.{isFree, blank, anyOf}
-use Rattle.table.specs.Table.{find, findFrom, dueBy, sooner, betterBy, placeOf, dueFrom, soonest}
-
--- ---- a walk whose outcome from a place on is its outcome in all
-
-module _ (s : Station) (places : length (s .entries) ≡ 64) (i : ℕ) where
-  -- The first place at which a test holds is here, or further on, or nowhere.
-  module _ (test : Entry → Bool) (left : findFrom test i (drop i (s .entries)) ≡ find test s) where
-    pub find-here : i < 64 → test (getD (s .entries) i blank) ≡ true → find test s ≡ At i
-    unfolding findFrom
-    find-here h t = sym left ∙ rw (drop-cons (s .entries) i blank (omega (arith, places)), t)
-
-    pub find-past : i < 64 → test (getD (s .entries) i blank) ≡ false → findFrom test (i + 1) (drop (i + 1) (s .entries)) ≡ find test s
-    unfolding findFrom
-    find-past h t = rw (add-one i) (rw (drop-cons (s .entries) i blank (omega (arith, places)), t, add-one i) at left)
-
-    pub find-end : 64 ≤ i → find test s ≡ Nothing
-    unfolding findFrom
-    find-end h = sym left ∙ rw (drop-of-length-le (s .entries) {i = i} (omega (arith, places)))
-
-  -- A test holds of some record if it holds here or further on.
-  module _ (test : Entry → Bool) (left : anyOf test (drop i (s .entries)) ≡ anyOf test (s .entries)) where
-    pub any-here : i < 64 → test (getD (s .entries) i blank) ≡ true → anyOf test (s .entries) ≡ true
-    unfolding anyOf
-    any-here h t = sym left ∙ rw (drop-cons (s .entries) i blank (omega (arith, places)), t)
-
-    pub any-past : i < 64 → test (getD (s .entries) i blank) ≡ false → anyOf test (drop (i + 1) (s .entries)) ≡ anyOf test (s .entries)
-    unfolding anyOf
-    any-past h t = rw (add-one i) (rw (drop-cons (s .entries) i blank (omega (arith, places)), t) at left)
-
-    pub any-end : 64 ≤ i → anyOf test (s .entries) ≡ false
-    unfolding anyOf
-    any-end h = sym left ∙ rw (drop-of-length-le (s .entries) {i = i} (omega (arith, places)))
-
-  -- The soonest so far, with the record here looked at.
-  module _ (e : Record) (best : Best) (left : dueFrom e best i (drop i (s .entries)) ≡ soonest e s) where
-    pub due-past : i < 64 → dueFrom e (betterBy (key (e .kind)) e i (getD (s .entries) i blank) best) (i + 1) (drop (i + 1) (s .entries)) ≡ soonest e s
-    unfolding dueFrom
-    due-past h =
-        let on : dueFrom e best i (drop i (s .entries)) ≡ dueFrom e (betterBy (key (e .kind)) e i (getD (s .entries) i blank) best) (i + 1) (drop (i + 1) (s .entries)) = rw (drop-cons (s .entries) i blank (omega (arith, places)), ← add-one i) in
-        sym on ∙ left
-
-    pub due-end : 64 ≤ i → soonest e s ≡ placeOf best
-    unfolding dueFrom
-    due-end h = sym left ∙ rw (drop-of-length-le (s .entries) {i = i} (omega (arith, places)))
+use Rattle.table.specs.Table.{find, findFrom, betterBy, dueFrom}
 
 -- ---- what is found
 

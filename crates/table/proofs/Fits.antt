@@ -17,7 +17,7 @@ use Rattle.handover.specs.Numbers.{isFree, blank, own}
 use Rattle.table.specs.Sound.{Fit, Sound, ownTimes, heldTimes}
 use Rattle.table.specs.Step.{started, heldFor}
 use Rattle.table.proofs.Counting.{issue-small}
-use Rattle.table.proofs.Deciding.{decide-keeps}
+use Rattle.handover.proofs.Deciding.{decide-keeps}
 
 -- A free place fits.
 pub fit-blank : Fit blank

@@ -1,13 +1,11 @@
 pub mod Changes
 pub mod Counting
-pub mod Deciding
 pub mod Finding
 pub mod Fits
-pub mod Forms
-pub mod Issuing
 pub mod Parts
 pub mod Placing
 pub mod Requests
 pub mod Resetting
 pub mod Soundness
 pub mod Tally
+pub mod Walking

@@ -13,7 +13,7 @@ use Rattle.handover.specs.Events.{decide}
 use Rattle.handover.specs.Numbers.{blank}
 use Rattle.table.specs.Sound.{Sound}
 use Rattle.table.specs.Table.{find, soonest, at, Puts}
-use Rattle.table.proofs.Deciding.{decide-units}
+use Rattle.handover.proofs.Deciding.{decide-units}
 use Rattle.table.proofs.Finding.{found-here, due-at}
 
 module _ (s : Station) (sound : Sound s) where

@@ -24,10 +24,10 @@ use Rattle.table.specs.Step.{issue, stepOf, bornOf, fresh, isTimer, sett
 use Rattle.table.specs.Table.{find, at, put, add}
 use Rattle.table.proofs.Changes.{sound-at, sound-put, sound-add, sound-reset}
 use Rattle.table.proofs.Counting.{issue-small, issue-unused, own-once}
-use Rattle.table.proofs.Deciding.{decide-units}
+use Rattle.handover.proofs.Deciding.{decide-units}
 use Rattle.table.proofs.Finding.{found-here, found-none}
 use Rattle.table.proofs.Fits.{fit-blank, decided-fits, decided-own, decided-held, started-fits, held-fits}
-use Rattle.table.proofs.Forms.{time-within}
+use Rattle.fields.proofs.Forms.{time-within}
 use Rattle.table.proofs.Parts.{Part, as-refusal, as-response, as-failure, as-grant, as-start, as-reset, as-idle, as-tick, as-event, part}
 use Rattle.table.proofs.Placing.{found-place, due-place}
 use Rattle.table.proofs.Requests.{units-free}

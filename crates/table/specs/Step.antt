@@ -1,6 +1,6 @@
 -- Every step takes the station and hands the next station back.
 use Prim.Native.Nat.{ℕ, _+_, _-_, _*_, _/_}
-use mathlib.Core.Bool.{Bool, cond, _&&_, _||_}
+use mathlib.Core.Bool.{Bool, cond, _&&_}
 use mathlib.Core.List.{List}
 use lib.Dec.{leb, ltb, eqb}
 use lib.ListN.{length, getD, take, replicate}
@@ -17,8 +17,8 @@ use Rattle.table.specs.declared.Found.the-variants.{At, Nothing}
 use Rattle.table.specs.declared.Outcome.{Outcome}
 use Rattle.table.specs.declared.Station.{Station}
 use Rattle.handover.specs.Numbers.{isFree, blank, nextAfter, issueFrom}
-use Rattle.fields.specs.Fields.{wellFormed}
-use Rattle.handover.specs.Events.{about, message, silence, decide}
+use Rattle.fields.specs.Fields.{oneRecord, allOfNeighbour, soonestDue, newRecord, aRequest, noChange, sortOfEvent}
+use Rattle.handover.specs.Events.{about, actionOf, message, silence, decide}
 use Rattle.table.specs.Table.{find, soonest, at, put, add, reset}
 
 -- an answer: reply, ending, admitted count and message, beside the next station
@@ -43,9 +43,6 @@ aboutOne e (At i) s = carried i (decide e (getD (s .entries) i blank) (s .clock 
 aboutOne e Nothing s = refused 2 s
 
 -- "7 and 14: all outgoing and held records of that neighbour end; 7 sends 8, 14 sends 7; ending 10 even if there was none"
-abbrev pub isReset : ℕ → Bool
-isReset k = eqb k 7 || eqb k 14
-
 abbrev pub resetOf : Record → Station → Answer
 resetOf e s = answer 0 10 0 (message (cond (eqb (e .kind) 7) 8 7) (e .neighbour) 0 0 0 0 0) (reset e s)
 
@@ -68,9 +65,13 @@ started e s =
       deadline = s .clock + s .prep;
     }
 
+abbrev pub starting : Record → ℕ → Station → Answer
+starting e i s = answer 0 0 0 (message 1 (e .neighbour) (issue s) 0 (e .first) 0 0) (add i (issue s) (started e s) s)
+
+-- where a place is free, the table says whether it is so used
 abbrev pub startAt : Record → Found → Station → Answer
 startAt e Nothing s = refused 4 s
-startAt e (At i) s = answer 0 0 0 (message 1 (e .neighbour) (issue s) 0 (e .first) 0 0) (add i (issue s) (started e s) s)
+startAt e (At i) s = cond (eqb (actionOf (e .kind) 0) 14) (starting e i s) (refused 6 s)
 
 -- "15: the clock becomes the time"; "1, 8, 9 for ticks"
 abbrev pub tickAt : Record → Found → Station → Answer
@@ -126,7 +127,9 @@ granted e a i s =
     (add i (issue s) (heldFor e a s) s)
 
 abbrev pub grantAt : Record → Admission → ℕ → Station → Answer
-grantAt e a i s = cond (eqb (a .admitted) 0) (failure 5 e s) (granted e a i s)
+grantAt e a i s =
+    cond (eqb (a .admitted) 0) (failure 5 e s)
+    (cond (eqb (actionOf (e .kind) 0) 15) (granted e a i s) (refused 6 s))
 
 -- with its bearers at hand and a free place, if there is one; and what it leaves in the verdict buffer
 abbrev pub admittedAt : Record → List ℕ → Found → Station → Answer
@@ -157,24 +160,24 @@ requestVerdicts e bearers s buffer =
 
 -- ---- the step
 
--- the other kinds: starts, ticks, resets, a reset's response, and what is about one record
-abbrev pub eventOf : Record → Station → Answer
-eventOf e s =
-    cond (eqb (e .kind) 9) (startAt e (find isFree s) s)
-    (cond (eqb (e .kind) 15) (tickOf e s)
-    (cond (isReset (e .kind)) (resetOf e s)
-    (cond (eqb (e .kind) 8) (answer 0 0 0 silence s)
-    (aboutOne e (find (about e) s) s))))
+-- what an event does, by its sort; a kind that is no event by itself is malformed
+abbrev pub bySort : ℕ → Record → List ℕ → ℕ → Station → Answer
+bySort sort e bearers room s =
+    cond (eqb sort oneRecord) (aboutOne e (find (about e) s) s)
+    (cond (eqb sort soonestDue) (tickOf e s)
+    (cond (eqb sort newRecord) (startAt e (find isFree s) s)
+    (cond (eqb sort allOfNeighbour) (resetOf e s)
+    (cond (eqb sort aRequest) (requestOf e bearers room s)
+    (cond (eqb sort noChange) (answer 0 0 0 silence s)
+    (refused 1 s))))))
 
 -- one event with the bytes that follow it and so much room for verdicts: 1 ahead of all others
 abbrev pub stepOf : Station → Record → List ℕ → ℕ → Answer
-stepOf s e bearers room =
-    cond (wellFormed e) (cond (eqb (e .kind) 1) (requestOf e bearers room s) (eventOf e s)) (refused 1 s)
+stepOf s e bearers room = bySort (sortOfEvent e) e bearers room s
 
 -- the verdict buffer after it
 abbrev pub verdictsOf : Station → Record → List ℕ → List ℕ → List ℕ
-verdictsOf s e bearers buffer =
-    cond (wellFormed e) (cond (eqb (e .kind) 1) (requestVerdicts e bearers s buffer) buffer) buffer
+verdictsOf s e bearers buffer = cond (eqb (sortOfEvent e) aRequest) (requestVerdicts e bearers s buffer) buffer
 
 -- ---- birth
 

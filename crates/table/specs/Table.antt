@@ -3,7 +3,7 @@ use Prim.Native.Nat.{ℕ, _+_, _-_, _^_, _<_, _≤_}
 use mathlib.Core.Path.{_≡_}
 use mathlib.Core.Bool.{Bool, cond, _&&_, _||_}
 use mathlib.Core.List.{List, [], _∷_, map}
-use lib.Dec.{leb, ltb, eqb}
+use lib.Dec.{eqb}
 use lib.ListN.{length, getD, set}
 use Rattle.laws.specs.Sums.{total}
 use Rattle.records.specs.declared.Record.{Record}
@@ -12,8 +12,8 @@ use Rattle.handover.specs.declared.Entry.{Entry}
 use Rattle.table.specs.declared.Found.{Found}
 use Rattle.table.specs.declared.Found.the-variants.{At, Nothing}
 use Rattle.table.specs.declared.Station.{Station}
-use Rattle.handover.specs.Numbers.{isFree, own, blank}
-use Rattle.handover.specs.Events.{key, keyed, about}
+use Rattle.handover.specs.Numbers.{isFree, blank}
+use Rattle.handover.specs.Events.{key, resets, dueBy, sooner}
 
 -- ---- finding
 
@@ -24,13 +24,6 @@ findFrom test i (r ∷ rs) = cond (test r) (At i) (findFrom test (i + 1) rs)
 
 abbrev pub find : (Entry → Bool) → Station → Found
 find test s = findFrom test 0 (s .entries)
-
--- "of the records with deadline not above it, the least deadline, then least own ID"
-abbrev pub dueBy : (ℕ → ℕ) → Record → Entry → Bool
-dueBy by e r = keyed by e r && leb (r .deadline) (e .time)
-
-abbrev pub sooner : Entry → Entry → Bool
-sooner a b = ltb (a .deadline) (b .deadline) || eqb (a .deadline) (b .deadline) && ltb (own a) (own b)
 
 -- the soonest so far and its place, a free one standing for none; and the place, once all were looked at
 abbrev pub betterBy : (ℕ → ℕ) → Record → ℕ → Entry → Best → Best
@@ -94,10 +87,10 @@ add i issued r s = holding (set (s .entries) i r) issued (s .used + r .units) s
 
 -- "all outgoing and held records of that neighbour end": what a reset makes of a record, and the units that it takes back
 abbrev pub leftOf : Record → Entry → Entry
-leftOf e r = cond (about e r) blank r
+leftOf e r = cond (resets e r) blank r
 
 abbrev pub backOf : Record → Entry → ℕ
-backOf e r = cond (about e r) (r .units) 0
+backOf e r = cond (resets e r) (r .units) 0
 
 abbrev pub reset : Record → Station → Station
 reset e s = holding (map (leftOf e) (s .entries)) (s .last) (s .used - total (backOf e) (s .entries)) s

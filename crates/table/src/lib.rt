@@ -5,18 +5,28 @@ use bearers::Judgement;
 use bearers::admit;
 use bearers::can_judge;
 use bearers::refuse_all;
-use fields::well_formed;
+use fields::ALL_OF_NEIGHBOUR;
+use fields::NEW_RECORD;
+use fields::NO_CHANGE;
+use fields::ONE_RECORD;
+use fields::REQUEST;
+use fields::SOONEST_DUE;
+use fields::sort_of;
 use handover::Decision;
 use handover::Entry;
+use handover::events::HELD;
+use handover::events::STARTED;
+use handover::events::action_of;
 use handover::events::decide;
 use handover::events::is_about;
+use handover::events::is_reset;
+use handover::events::is_sooner;
 use handover::events::key_of;
 use handover::events::message;
 use handover::events::reset_word;
 use handover::events::silence;
 use handover::numbers::blank;
 use handover::numbers::next_after;
-use handover::numbers::own;
 use handover::numbers::own_is;
 use records::NewId;
 use records::OldId;
@@ -24,12 +34,13 @@ use records::Record;
 use records::SIZE;
 ghost use mathlib.Core.Path.{_≡_};
 ghost use Prim.Native.Nat.{_-_, _/_, _≤_, _<_};
-ghost use mathlib.Core.Bool.{cond, _&&_, _||_};
+ghost use mathlib.Core.Bool.{cond};
 ghost use mathlib.Core.List.{[]};
 ghost use Rattle.bearers.specs.Admission.{judgeable, allFive};
-ghost use lib.ListN.{length, getD};
+ghost use lib.ListN.{length};
 ghost use Rattle.handover.specs.Numbers.{isFree, ownIs, anyOf};
-ghost use Rattle.table.specs.Table.{find as findOf, dueBy, sooner, Puts, reset as resetTo};
+ghost use Rattle.table.specs.Table.{find as findOf, Puts, reset as resetTo};
+ghost use Rattle.table.specs.declared.Found.the-variants.{At};
 ghost use Rattle.table.specs.Sound.{Sound};
 ghost use Rattle.table.specs.Reached.{Reached};
 ghost use Rattle.table.specs.Step.{issue as issueOf, quiet as quietOf, refused as refusedOf, carried as carriedOf, aboutOne, tickOf, startAt, resetOf, failure as failureOf, grantAt, admittedAt, verdictsAt, requestOf, requestVerdicts, stepOf, verdictsOf, isTimer, fresh as freshOf, birthOf};
@@ -75,19 +86,6 @@ pub enum Found {
 pub struct Best {
     place: usize,
     entry: Entry,
-}
-
-// Whether a record is due, and sooner than the best so far. Most are not due: that is looked at first.
-fn is_sooner(e: Record, key: [u8; 5], r: Entry, best: Entry) -> bool
-    ensures { λ x. ⌜ x ≡ (dueBy (λ k. getD key k 0) e r && (isFree best || sooner r best)) ⌝ }
-{
-    if e.time < r.deadline {
-        return false;
-    }
-    let mine = own(r);
-    let its = own(best);
-    let sooner = (r.deadline < best.deadline) | ((r.deadline == best.deadline) & (mine < its));
-    is_about(e, r, key) & ((best.state == 0) | sooner)
 }
 
 // A reply that changes nothing and sends nothing.
@@ -147,7 +145,7 @@ impl Station {
 
     // The first record that an event is about.
     fn find(self, e: Record) -> Found
-        requires { ⌜ (e .kind < 18) × (length (self .entries) ≡ 64) ⌝ }
+        requires { ⌜ length (self .entries) ≡ 64 ⌝ }
         ensures { λ r. ⌜ r ≡ findOf (about e) self ⌝ }
     {
         let key = key_of(e.kind);
@@ -227,7 +225,7 @@ impl Station {
 
     // An event about one record.
     fn about_one(self, e: Record) -> Answer
-        requires { ⌜ (e .kind < 18) × Sound self ⌝ }
+        requires { ⌜ Sound self ⌝ }
         ensures { λ a. ⌜ a ≡ aboutOne e (findOf (about e) self) self ⌝ }
     {
         let key = key_of(e.kind);
@@ -245,7 +243,7 @@ impl Station {
 
     // A tick: the clock, and the due record with the least deadline, then the least own ID.
     fn tick(mut self, e: Record) -> Answer
-        requires { ⌜ (e .kind < 18) × Sound self ⌝ }
+        requires { ⌜ Sound self ⌝ }
         ensures { λ a. ⌜ a ≡ tickOf e self ⌝ }
     {
         if e.time < self.clock {
@@ -277,37 +275,14 @@ impl Station {
         self.carried(i, decide(e, r, 0))
     }
 
-    // A start: a preparing record in the first free place.
-    fn start(mut self, e: Record) -> Answer
+    // A start, which wants a free place.
+    fn start(self, e: Record) -> Answer
         requires { ⌜ Sound self ⌝ }
         ensures { λ a. ⌜ a ≡ startAt e (findOf isFree self) self ⌝ }
     {
         let found = self.vacant();
         match found {
-            Found::At(i) => {
-                let id = self.issue();
-                self.last = id;
-                self.entries[i] = Entry {
-                    state: 1,
-                    neighbour: e.neighbour,
-                    old: OldId(id),
-                    new: NewId(0),
-                    requested: e.first,
-                    admitted: 0,
-                    status: 0,
-                    units: 0,
-                    deadline: self.clock + self.prep as u64,
-                };
-                Answer {
-                    outcome: Outcome {
-                        reply: 0,
-                        ending: 0,
-                        count: 0,
-                        message: message(1, e.neighbour, OldId(id), NewId(0), e.first, 0, 0),
-                    },
-                    station: self,
-                }
-            }
+            Found::At(i) => self.begin(e, i),
             Found::Nothing => Answer {
                 outcome: quiet(4),
                 station: self,
@@ -315,15 +290,50 @@ impl Station {
         }
     }
 
+    // A preparing record in a free place, if the table says so.
+    fn begin(mut self, e: Record, i: usize) -> Answer
+        requires { ⌜ (i < 64) × Sound self ⌝ }
+        ensures { λ a. ⌜ a ≡ startAt e (At i) self ⌝ }
+    {
+        if !(action_of(e.kind, 0) == STARTED) {
+            return Answer {
+                outcome: quiet(6),
+                station: self,
+            };
+        }
+        let id = self.issue();
+        self.last = id;
+        self.entries[i] = Entry {
+            state: 1,
+            neighbour: e.neighbour,
+            old: OldId(id),
+            new: NewId(0),
+            requested: e.first,
+            admitted: 0,
+            status: 0,
+            units: 0,
+            deadline: self.clock + self.prep as u64,
+        };
+        Answer {
+            outcome: Outcome {
+                reply: 0,
+                ending: 0,
+                count: 0,
+                message: message(1, e.neighbour, OldId(id), NewId(0), e.first, 0, 0),
+            },
+            station: self,
+        }
+    }
+
     // All outgoing and held records of a neighbour end.
     fn reset(mut self, e: Record) -> Station
-        requires { ⌜ (e .kind < 18) × Sound self ⌝ }
+        requires { ⌜ Sound self ⌝ }
         ensures { λ s. ⌜ s ≡ resetTo e self ⌝ }
     {
         let key = key_of(e.kind);
         for i in 0..64 {
             let r = self.entries[i];
-            if is_about(e, r, key) {
+            if is_reset(e, r, key) {
                 self.used = self.used - r.units;
                 self.entries[i] = blank();
             }
@@ -333,7 +343,7 @@ impl Station {
 
     // A reset, from a neighbour or of one.
     fn reset_by(self, e: Record) -> Answer
-        requires { ⌜ (e .kind < 18) × Sound self ⌝ }
+        requires { ⌜ Sound self ⌝ }
         ensures { λ a. ⌜ a ≡ resetOf e self ⌝ }
     {
         Answer {
@@ -369,6 +379,12 @@ impl Station {
     {
         if a.admitted == 0 {
             return self.failure(5, e);
+        }
+        if !(action_of(e.kind, 0) == HELD) {
+            return Answer {
+                outcome: quiet(6),
+                station: self,
+            };
         }
         let id = self.issue();
         let old = e.old;
@@ -433,7 +449,7 @@ impl Station {
 
     // A well-formed request, with the bytes that follow it.
     fn requested(self, e: Record, bearers: &[u8], verdicts: &mut [u8]) -> Answer
-        requires { ⌜ (e .kind < 18) × (e .number ≤ 256) × Sound self ⌝ }
+        requires { ⌜ (e .number ≤ 256) × Sound self ⌝ }
         ensures { λ a. ⌜ (a ≡ requestOf e (now (bearers .entry)) (length (now (verdicts .entry))) self) × (now (verdicts .exit) ≡ requestVerdicts e (now (bearers .entry)) self (now (verdicts .entry))) ⌝ }
     {
         let size = e.number as usize * SIZE;
@@ -462,28 +478,24 @@ impl Station {
         requires { ⌜ Reached self ⌝ }
         ensures { λ a. ⌜ a ≡ stepOf self e [] 0 ⌝ }
     {
-        if !well_formed(e) | (e.kind == 1) {
-            return Answer {
-                outcome: quiet(1),
-                station: self,
-            };
+        let sort = sort_of(e);
+        if sort == ONE_RECORD {
+            return self.about_one(e);
         }
-        if e.kind == 9 {
-            return self.start(e);
-        }
-        if e.kind == 15 {
+        if sort == SOONEST_DUE {
             return self.tick(e);
         }
-        if (e.kind == 7) | (e.kind == 14) {
+        if sort == NEW_RECORD {
+            return self.start(e);
+        }
+        if sort == ALL_OF_NEIGHBOUR {
             return self.reset_by(e);
         }
-        if e.kind == 8 {
-            return Answer {
-                outcome: quiet(0),
-                station: self,
-            };
+        let reply = if sort == NO_CHANGE { 0 } else { 1 };
+        Answer {
+            outcome: quiet(reply),
+            station: self,
         }
-        self.about_one(e)
     }
 
     // One event with the bytes that follow it: a request takes its bearers from there, and their verdicts are written to the
@@ -492,15 +504,9 @@ impl Station {
         requires { ⌜ Reached self ⌝ }
         ensures { λ a. ⌜ (a ≡ stepOf self e (now (bearers .entry)) (length (now (verdicts .entry)))) × (now (verdicts .exit) ≡ verdictsOf self e (now (bearers .entry)) (now (verdicts .entry))) ⌝ }
     {
-        if !(e.kind == 1) {
-            return self.step(e);
+        if sort_of(e) == REQUEST {
+            return self.requested(e, bearers, verdicts);
         }
-        if !well_formed(e) {
-            return Answer {
-                outcome: quiet(1),
-                station: self,
-            };
-        }
-        self.requested(e, bearers, verdicts)
+        self.step(e)
     }
 }

@@ -1,24 +1,11 @@
 -- Each arm is that of the action.
 use borrow.Author.Tests.{eq-eqb, ne-eqb}
-use Rattle.handover.specs.Events.{actionOf}
 use borrow.Author.Needs.{needs}
 use Rattle.handover.proofs.events.decide.Statement.{statement}
 use Rattle.handover.proofs.events.decide.Tie as tie
 
-cast-kind : tie.Need-cast-kind
-cast-kind c = search needs
-
-cast-state : tie.Need-cast-state
-cast-state c = search needs
-
-mul-action : tie.Need-mul-action
-mul-action c = search needs
-
-index-1-action : tie.Need-index-1-action
-index-1-action c = search needs
-
-index-2-action : tie.Need-index-2-action
-index-2-action c = search needs
+action-of-requires : tie.Need-action-of-requires
+action-of-requires c κs = search needs
 
 refusal-requires : tie.Need-refusal-requires
 refusal-requires c κs = search needs
@@ -43,49 +30,39 @@ blank-requires c κs = search needs
 
 returns : tie.Need-returns
 returns c =
-    let a = c .before .before .before .before .before .args in
-    let action = actionOf (a .e .kind) (a .r .state) in
-    rw (eq-eqb action 0 (c .before .if1 .taken)) (c .refusal .ensures)
+    let action = c .before .before .action-of .result in
+    rw (← c .before .before .action-of .ensures, eq-eqb action 0 (c .before .if1 .taken)) (c .refusal .ensures)
 
 returns-2 : tie.Need-returns-2
 returns-2 c =
-    let a = c .before .before .before .before .before .before .args in
-    let action = actionOf (a .e .kind) (a .r .state) in
-    rw (ne-eqb action 0 (c .before .before .if1 .left), eq-eqb action 11 (c .before .if2 .taken)) (c .acknowledged .ensures)
+    let action = c .before .before .before .action-of .result in
+    rw (← c .before .before .before .action-of .ensures, ne-eqb action 0 (c .before .before .if1 .left), eq-eqb action 11 (c .before .if2 .taken)) (c .acknowledged .ensures)
 
 returns-3 : tie.Need-returns-3
 returns-3 c =
-    let a = c .before .before .before .before .before .before .before .args in
-    let action = actionOf (a .e .kind) (a .r .state) in
-    rw (ne-eqb action 0 (c .before .before .before .if1 .left), ne-eqb action 11 (c .before .before .if2 .left), eq-eqb action 12 (c .before .if3 .taken)) (c .status-stored .ensures)
+    let action = c .before .before .before .before .action-of .result in
+    rw (← c .before .before .before .before .action-of .ensures, ne-eqb action 0 (c .before .before .before .if1 .left), ne-eqb action 11 (c .before .before .if2 .left), eq-eqb action 12 (c .before .if3 .taken)) (c .status-stored .ensures)
 
 returns-4 : tie.Need-returns-4
 returns-4 c =
-    let a = c .before .before .before .before .before .before .before .before .args in
-    let action = actionOf (a .e .kind) (a .r .state) in
-    rw (ne-eqb action 0 (c .before .before .before .before .if1 .left), ne-eqb action 11 (c .before .before .before .if2 .left), ne-eqb action 12 (c .before .before .if3 .left), eq-eqb action 13 (c .before .if4 .taken)) (c .status-sent .ensures)
+    let action = c .before .before .before .before .before .action-of .result in
+    rw (← c .before .before .before .before .before .action-of .ensures, ne-eqb action 0 (c .before .before .before .before .if1 .left), ne-eqb action 11 (c .before .before .before .if2 .left), ne-eqb action 12 (c .before .before .if3 .left), eq-eqb action 13 (c .before .if4 .taken)) (c .status-sent .ensures)
 
 returns-5 : tie.Need-returns-5
 returns-5 c =
-    let a = c .before .before .before .before .before .before .before .before .before .args in
-    let action = actionOf (a .e .kind) (a .r .state) in
-    rw (ne-eqb action 0 (c .before .before .before .before .before .if1 .left), ne-eqb action 11 (c .before .before .before .before .if2 .left), ne-eqb action 12 (c .before .before .before .if3 .left), ne-eqb action 13 (c .before .before .if4 .left), eq-eqb action 8 (c .before .if5 .taken)) (c .arrived .ensures)
+    let action = c .before .before .before .before .before .before .action-of .result in
+    rw (← c .before .before .before .before .before .before .action-of .ensures, ne-eqb action 0 (c .before .before .before .before .before .if1 .left), ne-eqb action 11 (c .before .before .before .before .if2 .left), ne-eqb action 12 (c .before .before .before .if3 .left), ne-eqb action 13 (c .before .before .if4 .left), eq-eqb action 8 (c .before .if5 .taken)) (c .arrived .ensures)
 
 returns-6 : tie.Need-returns-6
 returns-6 c =
-    let a = c .before .before .before .before .before .before .before .before .before .before .args in
-    let action = actionOf (a .e .kind) (a .r .state) in
-    rw (ne-eqb action 0 (c .before .before .before .before .before .before .if1 .left), ne-eqb action 11 (c .before .before .before .before .before .if2 .left), ne-eqb action 12 (c .before .before .before .before .if3 .left), ne-eqb action 13 (c .before .before .before .if4 .left), ne-eqb action 8 (c .before .before .if5 .left), c .blank .ensures, c .before .last-word .ensures)
+    let action = c .before .before .before .before .before .before .before .action-of .result in
+    rw (← c .before .before .before .before .before .before .before .action-of .ensures, ne-eqb action 0 (c .before .before .before .before .before .before .if1 .left), ne-eqb action 11 (c .before .before .before .before .before .if2 .left), ne-eqb action 12 (c .before .before .before .before .if3 .left), ne-eqb action 13 (c .before .before .before .if4 .left), ne-eqb action 8 (c .before .before .if5 .left), c .blank .ensures, c .before .last-word .ensures)
 
 pub decide-spec : {M : Type 1} → statement M
 decide-spec =
     tie.close
     (tie.spec
-    cast-kind
-    cast-state
-    mul-action
-    index-1-action
-    index-2-action
+    action-of-requires
     refusal-requires
     acknowledged-requires
     status-stored-requires

@@ -5,8 +5,9 @@ use native.Mathlib.Omega.{arith}
 use lib.ListN.{drop}
 use Rattle.handover.specs.declared.Decision.{Decision}
 use Rattle.handover.specs.Events.{about}
+use Rattle.table.specs.declared.Found.the-variants.{At, Nothing}
 use Rattle.table.specs.Table.{find, findFrom, Puts}
-use Rattle.table.proofs.Finding.{find-here, find-past, find-end}
+use Rattle.table.proofs.Walking.{walk-on, walk-end}
 use Rattle.table.proofs.Placing.{decided-puts}
 use borrow.Author.Needs.{needs}
 use Rattle.table.proofs.Station.about_one.Statement.{statement}
@@ -40,20 +41,23 @@ add-decide : tie.Need-add-decide Inv-loop μ-loop
 add-decide c = search needs
 
 decide-requires : tie.Need-decide-requires Inv-loop μ-loop
-decide-requires c κs = (c .before .before .before .before .before .before .pre .0, c .before .before .before .before .before .before .pre .1 .fit (c .before .before .before .before .loop .i) (c .before .before .before .loop-test .taken) .state)
+decide-requires c κs = search needs
 
 carried-requires : tie.Need-carried-requires Inv-loop μ-loop
 carried-requires c κs =
     let a = c .before .before .before .before .before .before .before .args in
     let i = c .before .before .before .before .before .loop .i in
-    subst (λ (d : Decision). Puts i (d .entry) (a .t1)) (sym (c .decide .ensures)) (decided-puts (a .t1) (c .before .before .before .before .before .before .before .pre .1) (a .e) i _ (c .before .before .before .before .loop-test .taken))
+    subst (λ (d : Decision). Puts i (d .entry) (a .t1)) (sym (c .decide .ensures)) (decided-puts (a .t1) (c .before .before .before .before .before .before .before .pre) (a .e) i _ (c .before .before .before .before .loop-test .taken))
 
 returns : tie.Need-returns Inv-loop μ-loop
+unfolding findFrom
 returns c =
     let a = c .before .before .before .before .before .before .before .before .args in
     let l = c .before .before .before .before .before .before .loop in
-    rw (find-here (a .t1) (c .before .before .before .before .before .before .before .before .pre .1 .places) (l .i) (about (a .e)) (l .inv .1) (c .before .before .before .before .before .loop-test .taken) (sym (rw (c .before .before .before .before .before .before .before .key-of .ensures) at (c .before .before .before .is-about .ensures)) ∙ c .before .before .if1 .taken))
-    (c .carried .ensures ∙ rw (c .before .decide .ensures))
+    let mine = sym (rw (c .before .before .before .before .before .before .before .key-of .ensures) at (c .before .before .before .is-about .ensures)) ∙ c .before .before .if1 .taken in
+    let found : find (about (a .e)) (a .t1) ≡ At (l .i) =
+    sym (rw mine at (walk-on (a .t1 .entries) (c .before .before .before .before .before .before .before .before .pre .places) (l .i) (findFrom (about (a .e)) (l .i)) _ (l .inv .1) (c .before .before .before .before .before .loop-test .taken))) in
+    rw found (c .carried .ensures ∙ rw (c .before .decide .ensures))
 
 add-i : tie.Need-add-i Inv-loop μ-loop
 add-i c = search needs
@@ -62,19 +66,24 @@ loop-less : tie.Need-loop-less Inv-loop μ-loop
 loop-less c = search needs
 
 loop-again : tie.Need-loop-again Inv-loop μ-loop
+unfolding findFrom
 loop-again c =
     let a = c .before .before .before .before .before .before .args in
     let l = c .before .before .before .before .loop in
-    (omega arith, find-past (a .t1) (c .before .before .before .before .before .before .pre .1 .places) (l .i) (about (a .e)) (l .inv .1) (c .before .before .before .loop-test .taken) (sym (rw (c .before .before .before .before .before .key-of .ensures) at (c .before .is-about .ensures)) ∙ c .if1 .left))
+    let other = sym (rw (c .before .before .before .before .before .key-of .ensures) at (c .before .is-about .ensures)) ∙ c .if1 .left in
+    (omega arith, rw other at (walk-on (a .t1 .entries) (c .before .before .before .before .before .before .pre .places) (l .i) (findFrom (about (a .e)) (l .i)) _ (l .inv .1) (c .before .before .before .loop-test .taken)))
 
 quiet-requires : tie.Need-quiet-requires Inv-loop μ-loop
 quiet-requires c κs = search needs
 
 returns-2 : tie.Need-returns-2 Inv-loop μ-loop
+unfolding findFrom
 returns-2 c =
     let a = c .before .before .before .before .args in
     let l = c .before .before .loop in
-    rw (find-end (a .t1) (c .before .before .before .before .pre .1 .places) (l .i) (about (a .e)) (l .inv .1) (c .before .loop-test .left), c .quiet .ensures)
+    let none : find (about (a .e)) (a .t1) ≡ Nothing =
+    sym (walk-end (a .t1 .entries) (c .before .before .before .before .pre .places) (l .i) (findFrom (about (a .e)) (l .i)) _ (l .inv .1) (c .before .loop-test .left)) in
+    rw (none, c .quiet .ensures)
 
 pub about-one-spec : {M : Type 1} → statement M
 about-one-spec =

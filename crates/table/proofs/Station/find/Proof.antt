@@ -5,7 +5,7 @@ use native.Mathlib.Omega.{arith}
 use lib.ListN.{drop}
 use Rattle.handover.specs.Events.{about}
 use Rattle.table.specs.Table.{find, findFrom}
-use Rattle.table.proofs.Finding.{find-here, find-past, find-end}
+use Rattle.table.proofs.Walking.{walk-on, walk-end}
 use borrow.Author.Needs.{needs}
 use Rattle.table.proofs.Station.find.Statement.{statement}
 use Rattle.table.proofs.Station.find.Tie as tie
@@ -32,10 +32,12 @@ is-about-requires : tie.Need-is-about-requires Inv-loop μ-loop
 is-about-requires c κs = search needs
 
 returns : tie.Need-returns Inv-loop μ-loop
+unfolding findFrom
 returns c =
     let a = c .before .before .before .before .before .before .args in
     let l = c .before .before .before .before .loop in
-    sym (find-here (a .t1) (c .before .before .before .before .before .before .pre .1) (l .i) (about (a .e)) (l .inv .1) (c .before .before .before .loop-test .taken) (sym (rw (c .before .before .before .before .before .key-of .ensures) at (c .before .is-about .ensures)) ∙ c .if1 .taken))
+    let mine = sym (rw (c .before .before .before .before .before .key-of .ensures) at (c .before .is-about .ensures)) ∙ c .if1 .taken in
+    rw mine at (walk-on (a .t1 .entries) (c .before .before .before .before .before .before .pre) (l .i) (findFrom (about (a .e)) (l .i)) _ (l .inv .1) (c .before .before .before .loop-test .taken))
 
 add-i : tie.Need-add-i Inv-loop μ-loop
 add-i c = search needs
@@ -44,16 +46,19 @@ loop-less : tie.Need-loop-less Inv-loop μ-loop
 loop-less c = search needs
 
 loop-again : tie.Need-loop-again Inv-loop μ-loop
+unfolding findFrom
 loop-again c =
     let a = c .before .before .before .before .before .before .args in
     let l = c .before .before .before .before .loop in
-    (omega arith, find-past (a .t1) (c .before .before .before .before .before .before .pre .1) (l .i) (about (a .e)) (l .inv .1) (c .before .before .before .loop-test .taken) (sym (rw (c .before .before .before .before .before .key-of .ensures) at (c .before .is-about .ensures)) ∙ c .if1 .left))
+    let other = sym (rw (c .before .before .before .before .before .key-of .ensures) at (c .before .is-about .ensures)) ∙ c .if1 .left in
+    (omega arith, rw other at (walk-on (a .t1 .entries) (c .before .before .before .before .before .before .pre) (l .i) (findFrom (about (a .e)) (l .i)) _ (l .inv .1) (c .before .before .before .loop-test .taken)))
 
 returns-2 : tie.Need-returns-2 Inv-loop μ-loop
+unfolding findFrom
 returns-2 c =
     let a = c .before .before .before .args in
     let l = c .before .loop in
-    sym (find-end (a .t1) (c .before .before .before .pre .1) (l .i) (about (a .e)) (l .inv .1) (c .loop-test .left))
+    walk-end (a .t1 .entries) (c .before .before .before .pre) (l .i) (findFrom (about (a .e)) (l .i)) _ (l .inv .1) (c .loop-test .left)
 
 pub find-spec : {M : Type 1} → statement M
 find-spec =

@@ -1,5 +1,6 @@
--- Each arm is that of the test.
-use borrow.Author.Tests.{eq-eqb, ne-eqb}
+-- Each arm is that of its test.
+use borrow.Author.Tests.{eq-eqb, ne-eqb, not-true, not-false}
+use lib.Dec.{eqb}
 use borrow.Author.Needs.{needs}
 use Rattle.table.proofs.Station.grant.Statement.{statement}
 use Rattle.table.proofs.Station.grant.Tie as tie
@@ -10,20 +11,31 @@ failure-requires c κs = search needs
 returns : tie.Need-returns
 returns c = rw (eq-eqb (c .before .before .before .args .a .admitted) 0 (c .before .if1 .taken)) (c .failure .ensures)
 
+action-of-requires : tie.Need-action-of-requires
+action-of-requires c κs = search needs
+
+quiet-requires : tie.Need-quiet-requires
+quiet-requires c κs = search needs
+
+returns-2 : tie.Need-returns-2
+returns-2 c =
+    let a = c .before .before .before .before .before .args in
+    rw (ne-eqb (a .a .admitted) 0 (c .before .before .before .if1 .left), ← c .before .before .action-of .ensures, not-true (eqb (c .before .before .action-of .result) 15) (c .before .if2 .taken), c .quiet .ensures)
+
 issue-requires : tie.Need-issue-requires
 issue-requires c κs = search needs
 
 add-self : tie.Need-add-self
 add-self c = search needs
 
-cast-t15 : tie.Need-cast-t15
-cast-t15 c = search needs
+cast-t19 : tie.Need-cast-t19
+cast-t19 c = search needs
 
-add-t16 : tie.Need-add-t16
-add-t16 c = search needs
+add-t20 : tie.Need-add-t20
+add-t20 c = search needs
 
-mul-t18 : tie.Need-mul-t18
-mul-t18 c = search needs
+mul-t22 : tie.Need-mul-t22
+mul-t22 c = search needs
 
 element-set-from-self : tie.Need-element-set-from-self
 element-set-from-self c = search needs
@@ -31,8 +43,10 @@ element-set-from-self c = search needs
 message-requires : tie.Need-message-requires
 message-requires c κs = search needs
 
-returns-2 : tie.Need-returns-2
-returns-2 c = rw (ne-eqb (c .before .before .before .before .before .before .args .a .admitted) 0 (c .before .before .before .before .if1 .left), c .message .ensures, c .before .before .before .issue .ensures .0)
+returns-3 : tie.Need-returns-3
+returns-3 c =
+    let a = c .before .before .before .before .before .before .before .before .args in
+    rw (ne-eqb (a .a .admitted) 0 (c .before .before .before .before .before .before .if1 .left), ← c .before .before .before .before .before .action-of .ensures, not-false (eqb (c .before .before .before .before .before .action-of .result) 15) (c .before .before .before .before .if2 .left), c .message .ensures, c .before .before .before .issue .ensures .0)
 
 pub grant-spec : {M : Type 1} → statement M
 grant-spec =
@@ -40,11 +54,14 @@ grant-spec =
     (tie.spec
     failure-requires
     returns
+    action-of-requires
+    quiet-requires
+    returns-2
     issue-requires
     add-self
-    cast-t15
-    add-t16
-    mul-t18
+    cast-t19
+    add-t20
+    mul-t22
     element-set-from-self
     message-requires
-    returns-2)
+    returns-3)

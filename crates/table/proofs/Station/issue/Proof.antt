@@ -4,7 +4,7 @@ use Prim.Native.Nat.{_<_}
 use mathlib.Core.Path.{_≡_, _∙_, sym}
 use Rattle.handover.specs.Numbers.{issueFrom}
 use Rattle.table.specs.Step.{issue}
-use Rattle.table.proofs.Issuing.{next-small, issue-free, issue-used, issue-none}
+use Rattle.handover.proofs.Issuing.{next-small, issue-free, issue-used, issue-none}
 use borrow.Author.Needs.{needs}
 use Rattle.table.proofs.Station.issue.Statement.{statement}
 use Rattle.table.proofs.Station.issue.Tie as tie

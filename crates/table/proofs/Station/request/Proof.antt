@@ -1,60 +1,57 @@
--- Another event, a malformed request, or a request.
-use borrow.Author.Tests.{not-true, not-false}
-use mathlib.Core.Path.{_∙_, sym}
+-- A request takes its bearers; any other event is a step.
+use borrow.Author.Tests.{ne-eqb}
+use mathlib.Core.Path.{_≡_, sym, _∙_}
+use Prim.Native.Nat.{ℕ}
+use mathlib.Core.Bool.{true, false}
+use mathlib.Core.List.{List, []}
+use native.Mathlib.Omega.{arith}
 use lib.Dec.{eqb}
+use lib.ListN.{length}
+use denote.Ref.{now}
 use Rattle.laws.proofs.Tests.{by-cases}
-use Rattle.fields.specs.Fields.{wellFormed}
-use Rattle.table.proofs.Forms.{kind-small, number-within}
+use Rattle.records.specs.declared.Record.{Record}
+use Rattle.fields.specs.Fields.{aRequest, sortOfEvent, wellFormed}
+use Rattle.fields.proofs.Forms.{number-within}
+use Rattle.table.specs.declared.Station.{Station}
+use Rattle.table.specs.Step.{stepOf}
 use Rattle.table.proofs.Soundness.{sound}
 use borrow.Author.Needs.{needs}
 use Rattle.table.proofs.Station.request.Statement.{statement}
 use Rattle.table.proofs.Station.request.Tie as tie
 
-step-requires : tie.Need-step-requires
-step-requires c κs = search needs
+-- an event that has the sort of a request is well formed
+formed : (e : Record) → sortOfEvent e ≡ aRequest → wellFormed e ≡ true
+formed e is = by-cases (wellFormed e) (λ t. t) (λ t. absurd (omega (arith, rw t at is)))
 
-returns : tie.Need-returns
-returns c =
-    let e = c .before .before .before .before .before .args .e in
-    let other = not-true (eqb (e .kind) 1) (c .before .if1 .taken) in
-    (rw other (c .step .ensures ∙ rw other), by-cases (wellFormed e) (λ t. rw (t, other)) (λ t. rw t))
+-- what is no request takes nothing of what follows it
+alone : (s : Station) (e : Record) (bearers : List ℕ) (room : ℕ) → eqb (sortOfEvent e) aRequest ≡ false → stepOf s e [] 0 ≡ stepOf s e bearers room
+alone s e bearers room other = rw other
 
-well-formed-requires : tie.Need-well-formed-requires
-well-formed-requires c κs = search needs
-
-quiet-requires : tie.Need-quiet-requires
-quiet-requires c κs = search needs
-
-returns-2 : tie.Need-returns-2
-returns-2 c =
-    let bad = sym (c .before .before .well-formed .ensures) ∙ not-true _ (c .before .if2 .taken) in
-    (rw (bad, c .quiet .ensures), rw bad)
+sort-of-requires : tie.Need-sort-of-requires
+sort-of-requires c κs = search needs
 
 requested-requires : tie.Need-requested-requires
 requested-requires c κs =
-    let formed = sym (c .before .before .well-formed .ensures) ∙ not-false _ (c .before .if2 .left) in
-    let e = c .before .before .before .before .before .before .before .args .e in
-    (kind-small e formed, number-within e formed, sound (c .before .before .before .before .before .before .before .pre))
+    let e = c .before .before .before .before .before .args .e in
+    (number-within e (formed e (sym (c .before .before .sort-of .ensures) ∙ c .before .if1 .taken)), sound (c .before .before .before .before .before .pre))
 
 same-length : tie.Need-same-length
 same-length c = search needs
 
-returns-3 : tie.Need-returns-3
-returns-3 c =
-    let formed = sym (c .before .before .before .before .before .well-formed .ensures) ∙ not-false _ (c .before .before .before .before .if2 .left) in
-    let one = not-false (eqb (c .before .before .before .before .before .before .before .before .before .before .args .e .kind) 1) (c .before .before .before .before .before .before .if1 .left) in
+returns : tie.Need-returns
+returns c =
+    let sort = sym (c .before .before .before .before .before .sort-of .ensures) ∙ c .before .before .before .before .if1 .taken in
     let requested = c .before .before .requested .ensures in
-    (rw (formed, one) (requested .0), rw (formed, one) (requested .1))
+    (rw sort (requested .0), rw sort (requested .1))
+
+step-requires : tie.Need-step-requires
+step-requires c κs = search needs
+
+returns-2 : tie.Need-returns-2
+returns-2 c =
+    let a = c .before .before .before .before .before .args in
+    let other : eqb (sortOfEvent (a .e)) aRequest ≡ false = rw (← c .before .before .sort-of .ensures) (ne-eqb (c .before .before .sort-of .result) aRequest (c .before .if1 .left)) in
+    (c .step .ensures ∙ alone (a .self) (a .e) (now (a .bearers)) (length (now (a .verdicts))) other, rw other)
 
 pub request-spec : {M : Type 1} → statement M
-request-spec =
-    tie.close
-    (tie.spec
-    step-requires
-    returns
-    well-formed-requires
-    quiet-requires
-    returns-2
-    requested-requires
-    same-length
-    returns-3)
+request-spec = tie.close (tie.spec sort-of-requires requested-requires same-length returns step-requires returns-2)

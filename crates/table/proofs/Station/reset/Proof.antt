@@ -24,7 +24,7 @@ abbrev μ-loop : tie.MeasureT-loop
 ends : (c : tie.In-loop Inv-loop μ-loop) → Puts (c .before .loop .i) blank (c .before .loop .self)
 ends c =
     let l = c .before .loop in
-    subst (λ (s : Station). Puts (l .i) blank s) (sym (l .inv .1)) (partly-puts (c .before .before .before .args .e) (c .before .before .before .args .t1) (c .before .before .before .pre .1) (l .i) (c .loop-test .taken))
+    subst (λ (s : Station). Puts (l .i) blank s) (sym (l .inv .1)) (partly-puts (c .before .before .before .args .e) (c .before .before .before .args .t1) (c .before .before .before .pre) (l .i) (c .loop-test .taken))
 
 key-of-requires : tie.Need-key-of-requires Inv-loop μ-loop
 key-of-requires c κs = search needs
@@ -38,8 +38,8 @@ mul-r c = search needs
 element-copy-out-r : tie.Need-element-copy-out-r Inv-loop μ-loop
 element-copy-out-r c = search needs
 
-is-about-requires : tie.Need-is-about-requires Inv-loop μ-loop
-is-about-requires c κs = search needs
+is-reset-requires : tie.Need-is-reset-requires Inv-loop μ-loop
+is-reset-requires c κs = search needs
 
 sub-self : tie.Need-sub-self Inv-loop μ-loop
 sub-self c = ends (c .before .before .before .before) .back
@@ -63,19 +63,19 @@ loop-again : tie.Need-loop-again Inv-loop μ-loop
 loop-again c =
     let a = c .before .before .before .before .before .before .args in
     let l = c .before .before .before .before .loop in
-    let mine = sym (rw (c .before .before .before .before .before .key-of .ensures) at (c .before .is-about .ensures)) in
+    let mine = sym (rw (c .before .before .before .before .before .key-of .ensures) at (c .before .is-reset .ensures)) in
     let next : c .if1 .self ≡ endedBy (key (a .e .kind)) (l .i) (a .e) (l .self) =
     ⊎-elim
     (λ t. t .3 ∙ sym (rw (mine ∙ t .0 .taken, t .2 .ensures, add-zero (l .self .used - getD (l .self .entries) (l .i) blank .units))))
     (λ t. t .1 ∙ sym (rw (mine ∙ t .0 .left)))
     (c .if1 .came) in
-    (omega arith, next ∙ ap (endedBy (key (a .e .kind)) (l .i) (a .e)) (l .inv .1) ∙ partly-next (a .e) (a .t1) (c .before .before .before .before .before .before .pre .1) (l .i) (c .before .before .before .loop-test .taken))
+    (omega arith, next ∙ ap (endedBy (key (a .e .kind)) (l .i) (a .e)) (l .inv .1) ∙ partly-next (a .e) (a .t1) (c .before .before .before .before .before .before .pre) (l .i) (c .before .before .before .loop-test .taken))
 
 returns : tie.Need-returns Inv-loop μ-loop
 returns c =
     let all : c .before .loop .i ≡ 64 = omega arith in
     let a = c .before .before .before .args in
-    rw all at (c .before .loop .inv .1) ∙ partly-all (a .e) (a .t1) (c .before .before .before .pre .1)
+    rw all at (c .before .loop .inv .1) ∙ partly-all (a .e) (a .t1) (c .before .before .before .pre)
 
 pub reset-spec : {M : Type 1} → statement M
 reset-spec =
@@ -87,7 +87,7 @@ reset-spec =
     loop-holds
     mul-r
     element-copy-out-r
-    is-about-requires
+    is-reset-requires
     sub-self
     blank-requires
     mul-t16

@@ -12,7 +12,7 @@ use Rattle.table.specs.declared.Found.the-variants.{At, Nothing}
 use Rattle.handover.specs.Events.{key}
 use Rattle.handover.specs.Numbers.{blank}
 use Rattle.table.specs.Table.{betterBy, placeOf, dueFrom, soonest, at, Puts}
-use Rattle.table.proofs.Finding.{due-past, due-end}
+use Rattle.table.proofs.Walking.{walk-on, walk-end}
 use Rattle.table.proofs.Placing.{due-place, decided-puts, puts-at}
 use borrow.Author.Needs.{needs}
 use Rattle.table.proofs.Station.tick.Statement.{statement}
@@ -26,17 +26,18 @@ abbrev μ-loop : tie.MeasureT-loop
 
 -- after the loop the best so far is the soonest
 ended : (c : tie.After-loop Inv-loop μ-loop) → soonest (c .before .before .before .before .before .before .args .e) (c .before .before .before .before .before .before .args .t1) ≡ placeOf (c .before .loop .best)
+unfolding dueFrom
 ended c =
     let a = c .before .before .before .before .before .before .args in
     let l = c .before .loop in
-    due-end (a .t1) (c .before .before .before .before .before .before .pre .1 .places) (l .i) (a .e) (l .best) (l .inv .1) (c .loop-test .left)
+    sym (walk-end (a .t1 .entries) (c .before .before .before .before .before .before .pre .places) (l .i) (dueFrom (a .e) (l .best) (l .i)) _ (l .inv .1) (c .loop-test .left))
 
 -- if it is a record, its place is one of the table's
 found : (c : tie.Else3 Inv-loop μ-loop) → soonest (c .before .before .before .before .before .before .before .before .args .e) (c .before .before .before .before .before .before .before .before .args .t1) ≡ At (c .before .before .before .loop .best .place)
 found c = rw (ne-eqb (c .before .before .before .loop .best .entry .state) 0 (c .if3 .left)) at (ended (c .before .before))
 
 place : (c : tie.Else3 Inv-loop μ-loop) → c .before .before .before .loop .best .place < 64
-place c = due-place (c .before .before .before .before .before .before .before .before .args .t1) (c .before .before .before .before .before .before .before .before .pre .1) (c .before .before .before .before .before .before .before .before .args .e) _ (found c)
+place c = due-place (c .before .before .before .before .before .before .before .before .args .t1) (c .before .before .before .before .before .before .before .before .pre) (c .before .before .before .before .before .before .before .before .args .e) _ (found c)
 
 quiet-requires : tie.Need-quiet-requires Inv-loop μ-loop
 quiet-requires c κs = search needs
@@ -69,13 +70,14 @@ loop-less : tie.Need-loop-less Inv-loop μ-loop
 loop-less c = search needs
 
 loop-again : tie.Need-loop-again Inv-loop μ-loop
+unfolding dueFrom
 loop-again c =
     let a = c .before .before .before .before .before .before .before .before .before .args in
     let l = c .before .before .before .before .loop in
     let sooner = sym (rw (c .before .before .before .before .before .before .key-of .ensures) at (c .before .is-sooner .ensures)) in
     let next : c .if2 .best ≡ betterBy (key (a .e .kind)) (a .e) (l .i) (getD (a .t1 .entries) (l .i) blank) (l .best) =
     ⊎-elim (λ t. rw (sooner ∙ t .0 .taken) (t .1)) (λ t. rw (sooner ∙ t .0 .left) (t .1)) (c .if2 .came) in
-    (omega arith, ap (λ (b : Best). dueFrom (a .e) b (l .i + 1) (drop (l .i + 1) (a .t1 .entries))) next ∙ due-past (a .t1) (c .before .before .before .before .before .before .before .before .before .pre .1 .places) (l .i) (a .e) (l .best) (l .inv .1) (c .before .before .before .loop-test .taken))
+    (omega arith, ap (λ (b : Best). dueFrom (a .e) b (l .i + 1) (drop (l .i + 1) (a .t1 .entries))) next ∙ walk-on (a .t1 .entries) (c .before .before .before .before .before .before .before .before .before .pre .places) (l .i) (dueFrom (a .e) (l .best) (l .i)) _ (l .inv .1) (c .before .before .before .loop-test .taken))
 
 quiet-requires-2 : tie.Need-quiet-requires-2 Inv-loop μ-loop
 quiet-requires-2 c κs = search needs
@@ -93,13 +95,13 @@ element-copy-out-r-2 : tie.Need-element-copy-out-r-2 Inv-loop μ-loop
 element-copy-out-r-2 c = place c
 
 decide-requires : tie.Need-decide-requires Inv-loop μ-loop
-decide-requires c κs = (c .before .before .before .before .before .before .before .before .before .pre .0, c .before .before .before .before .before .before .before .before .before .pre .1 .fit (c .before .before .before .before .loop .best .place) (place (c .before)) .state)
+decide-requires c κs = search needs
 
 carried-requires : tie.Need-carried-requires Inv-loop μ-loop
 carried-requires c κs =
     let a = c .before .before .before .before .before .before .before .before .before .before .args in
     let i = c .before .before .before .before .before .loop .best .place in
-    subst (λ (d : Decision). Puts i (d .entry) (at (a .e .time) (a .t1))) (sym (c .decide .ensures)) (puts-at (a .e .time) (decided-puts (a .t1) (c .before .before .before .before .before .before .before .before .before .before .pre .1) (a .e) i 0 (place (c .before .before))))
+    subst (λ (d : Decision). Puts i (d .entry) (at (a .e .time) (a .t1))) (sym (c .decide .ensures)) (puts-at (a .e .time) (decided-puts (a .t1) (c .before .before .before .before .before .before .before .before .before .before .pre) (a .e) i 0 (place (c .before .before))))
 
 returns-3 : tie.Need-returns-3 Inv-loop μ-loop
 returns-3 c =

@@ -4,7 +4,7 @@ use mathlib.Core.Path.{_≡_, refl, _∙_, sym}
 use native.Mathlib.Omega.{arith}
 use lib.ListN.{drop}
 use Rattle.handover.specs.Numbers.{anyOf, ownIs}
-use Rattle.table.proofs.Finding.{any-here, any-past, any-end}
+use Rattle.table.proofs.Walking.{walk-on, walk-end}
 use borrow.Author.Needs.{needs}
 use Rattle.table.proofs.Station.uses.Statement.{statement}
 use Rattle.table.proofs.Station.uses.Tie as tie
@@ -28,10 +28,11 @@ own-is-requires : tie.Need-own-is-requires Inv-loop μ-loop
 own-is-requires c κs = search needs
 
 returns : tie.Need-returns Inv-loop μ-loop
+unfolding anyOf
 returns c =
     let a = c .before .before .before .before .before .args in
     let l = c .before .before .before .before .loop in
-    sym (any-here (a .t1) (c .before .before .before .before .before .pre) (l .i) (ownIs (a .id)) (l .inv .1) (c .before .before .before .loop-test .taken) (sym (c .before .own-is .ensures) ∙ c .if1 .taken))
+    rw (sym (c .before .own-is .ensures) ∙ c .if1 .taken) at (walk-on (a .t1 .entries) (c .before .before .before .before .before .pre) (l .i) (anyOf (ownIs (a .id))) _ (l .inv .1) (c .before .before .before .loop-test .taken))
 
 add-i : tie.Need-add-i Inv-loop μ-loop
 add-i c = search needs
@@ -40,16 +41,18 @@ loop-less : tie.Need-loop-less Inv-loop μ-loop
 loop-less c = search needs
 
 loop-again : tie.Need-loop-again Inv-loop μ-loop
+unfolding anyOf
 loop-again c =
     let a = c .before .before .before .before .before .args in
     let l = c .before .before .before .before .loop in
-    (omega arith, any-past (a .t1) (c .before .before .before .before .before .pre) (l .i) (ownIs (a .id)) (l .inv .1) (c .before .before .before .loop-test .taken) (sym (c .before .own-is .ensures) ∙ c .if1 .left))
+    (omega arith, rw (sym (c .before .own-is .ensures) ∙ c .if1 .left) at (walk-on (a .t1 .entries) (c .before .before .before .before .before .pre) (l .i) (anyOf (ownIs (a .id))) _ (l .inv .1) (c .before .before .before .loop-test .taken)))
 
 returns-2 : tie.Need-returns-2 Inv-loop μ-loop
+unfolding anyOf
 returns-2 c =
     let a = c .before .before .args in
     let l = c .before .loop in
-    sym (any-end (a .t1) (c .before .before .pre) (l .i) (ownIs (a .id)) (l .inv .1) (c .loop-test .left))
+    walk-end (a .t1 .entries) (c .before .before .pre) (l .i) (anyOf (ownIs (a .id))) _ (l .inv .1) (c .loop-test .left)
 
 pub uses-spec : {M : Type 1} → statement M
 uses-spec =

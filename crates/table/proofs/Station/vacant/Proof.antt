@@ -6,7 +6,7 @@ use native.Mathlib.Omega.{arith}
 use lib.ListN.{drop}
 use Rattle.handover.specs.Numbers.{isFree}
 use Rattle.table.specs.Table.{find, findFrom}
-use Rattle.table.proofs.Finding.{find-here, find-past, find-end}
+use Rattle.table.proofs.Walking.{walk-on, walk-end}
 use borrow.Author.Needs.{needs}
 use Rattle.table.proofs.Station.vacant.Statement.{statement}
 use Rattle.table.proofs.Station.vacant.Tie as tie
@@ -27,9 +27,11 @@ element-copy-out-r : tie.Need-element-copy-out-r Inv-loop μ-loop
 element-copy-out-r c = search needs
 
 returns : tie.Need-returns Inv-loop μ-loop
+unfolding findFrom
 returns c =
+    let a = c .before .before .before .before .before .args in
     let l = c .before .before .before .before .loop in
-    sym (find-here (c .before .before .before .before .before .args .t1) (c .before .before .before .before .before .pre) (l .i) isFree (l .inv .1) (c .before .before .before .loop-test .taken) (eq-eqb _ 0 (c .if1 .taken)))
+    rw (eq-eqb _ 0 (c .if1 .taken)) at (walk-on (a .t1 .entries) (c .before .before .before .before .before .pre) (l .i) (findFrom isFree (l .i)) _ (l .inv .1) (c .before .before .before .loop-test .taken))
 
 add-i : tie.Need-add-i Inv-loop μ-loop
 add-i c = search needs
@@ -38,14 +40,17 @@ loop-less : tie.Need-loop-less Inv-loop μ-loop
 loop-less c = search needs
 
 loop-again : tie.Need-loop-again Inv-loop μ-loop
+unfolding findFrom
 loop-again c =
+    let a = c .before .before .before .before .before .args in
     let l = c .before .before .before .before .loop in
-    (omega arith, find-past (c .before .before .before .before .before .args .t1) (c .before .before .before .before .before .pre) (l .i) isFree (l .inv .1) (c .before .before .before .loop-test .taken) (ne-eqb _ 0 (c .if1 .left)))
+    (omega arith, rw (ne-eqb _ 0 (c .if1 .left)) at (walk-on (a .t1 .entries) (c .before .before .before .before .before .pre) (l .i) (findFrom isFree (l .i)) _ (l .inv .1) (c .before .before .before .loop-test .taken)))
 
 returns-2 : tie.Need-returns-2 Inv-loop μ-loop
+unfolding findFrom
 returns-2 c =
     let l = c .before .loop in
-    sym (find-end (c .before .before .args .t1) (c .before .before .pre) (l .i) isFree (l .inv .1) (c .loop-test .left))
+    walk-end (c .before .before .args .t1 .entries) (c .before .before .pre) (l .i) (findFrom isFree (l .i)) _ (l .inv .1) (c .loop-test .left)
 
 pub vacant-spec : {M : Type 1} → statement M
 vacant-spec =

@@ -1,20 +1,13 @@
 -- What a well-formed event has.
 use Prim.Native.Nat.{ℕ, _≤_, _<_}
 use mathlib.Core.Path.{_≡_}
-use mathlib.Core.Bool.{Bool, true, false, _&&_, _||_, false≢true}
-use borrow.Author.Tests.{leb-true, le-leb, eqb-true}
+use mathlib.Core.Bool.{Bool, true, false, _&&_, _||_, not, false≢true}
+use borrow.Author.Tests.{leb-true, le-leb, eqb-true, not-true}
 use native.Mathlib.Omega.{arith}
 use lib.Dec.{leb, eqb}
 use Rattle.laws.proofs.Tests.{by-cases, both-true}
 use Rattle.records.specs.declared.Record.{Record}
-use Rattle.fields.specs.Fields.{usedBy, isAbsent, isKind, inRange, idsInRange, valuesInRange, othersZero, isFilled, wellFormed}
-
--- A kind is below 18.
-kind-below : (k : ℕ) → isKind k ≡ true → k < 18
-kind-below k t =
-    by-cases (leb 1 k && leb k 15)
-    (λ u. omega (arith, leb-true k 15 (both-true (leb 1 k) (leb k 15) u .1)))
-    (λ u. omega (arith, eqb-true k 17 (rw u at t)))
+use Rattle.fields.specs.Fields.{usedBy, sortOf, noEvent, isAbsent, inRange, idsInRange, valuesInRange, othersZero, isFilled, wellFormed}
 
 -- A field in range is at most its greatest value.
 at-most : (used most value : ℕ) → inRange used most value ≡ true → value ≤ most
@@ -34,19 +27,19 @@ setsInRange e =
     && inRange (usedBy (e .kind) 5) 255 (e .reason)
 
 module _ (e : Record) (t : wellFormed e ≡ true) where
-  -- Its kind is one, and its IDs and its values are in range.
-  parts : (isKind (e .kind) ≡ true) × (idsInRange (usedBy (e .kind)) e ≡ true) × (valuesInRange (usedBy (e .kind)) e ≡ true)
+  -- Its kind has a sort, and its IDs and its values are in range.
+  parts : (eqb (sortOf (e .kind)) noEvent ≡ false) × (idsInRange (usedBy (e .kind)) e ≡ true) × (valuesInRange (usedBy (e .kind)) e ≡ true)
   parts =
-      let kind = isKind (e .kind) in
+      let kind = not (eqb (sortOf (e .kind)) noEvent) in
       let ids = idsInRange (usedBy (e .kind)) e in
       let values = valuesInRange (usedBy (e .kind)) e in
       let four = both-true (kind && ids && values && othersZero e) (isFilled e) t .0 in
       let three = both-true (kind && ids) values (both-true (kind && ids && values) (othersZero e) four .0) in
       let two = both-true kind ids (three .0) in
-      (two .0, two .1, three .1)
+      (not-true (eqb (sortOf (e .kind)) noEvent) (two .0), two .1, three .1)
 
-  pub kind-small : e .kind < 18
-  kind-small = kind-below (e .kind) (parts .0)
+  pub some-sort : eqb (sortOf (e .kind)) noEvent ≡ false
+  some-sort = parts .0
 
   -- So its neighbour and its Old ID are in range, and its New ID but where a cancel has none, its first set, its number and its time, whatever
   -- its kind is.
