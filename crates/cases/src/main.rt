@@ -18,6 +18,7 @@ use records::SIZE;
 use records::stream::cut;
 use std::num::wrapping_add_u64;
 use table::Outcome;
+use table::Settings;
 use table::Station;
 ghost use mathlib.Core.Path.{_≡_};
 ghost use lib.ListN.{length};
@@ -107,7 +108,13 @@ fn born(c: Case, r: Record, next: usize) -> Case
 {
     let prep = (r.time % 4_294_967_296) as u32;
     let overall = (r.time / 4_294_967_296) as u32;
-    let birth = Station::new(r.number, prep, overall, r.bytes28);
+    let settings = Settings {
+        capacity: r.number,
+        prep,
+        overall,
+        guard: r.bytes28,
+    };
+    let birth = Station::new(settings);
     let station = birth.station;
     field(b" born ", birth.reply as u64);
     Case {
@@ -223,7 +230,13 @@ fn turn(c: Case, script: &[u8]) -> Case
 }
 
 fn play(script: &[u8]) {
-    let birth = Station::new(0, 1, 1, 1);
+    let least = Settings {
+        capacity: 0,
+        prep: 1,
+        overall: 1,
+        guard: 1,
+    };
+    let birth = Station::new(least);
     let station = birth.station;
     let mut c = Case {
         station,

@@ -10,6 +10,7 @@ use Rattle.records.specs.declared.stream.Piece.{Piece}
 use Rattle.records.specs.declared.stream.Piece.the-variants.{Nothing, Short, Single, Request}
 use Rattle.table.specs.declared.Answer.{Answer}
 use Rattle.table.specs.declared.Outcome.{Outcome}
+use Rattle.table.specs.declared.Settings.{Settings}
 use Rattle.table.specs.declared.Station.{Station}
 use Rattle.table.specs.Step.{stepOf, verdictsOf, bornOf}
 use Rattle.lines.specs.declared.Run.{Run}
@@ -74,8 +75,11 @@ abbrev pub lineFor : Run → List ℕ → List ℕ
 lineFor run rest = lineOf (run .place) (answerTo 256 (run .station) rest (pieceAt rest 0) .outcome)
 
 -- "settings capacity 100, prep 50, overall 2,000, guard 3,000"
+abbrev pub settings : Settings
+settings = record { capacity = 100; prep = 50; overall = 2000; guard = 3000 }
+
 abbrev pub newRun : Run
-newRun = record { station = bornOf 100 50 2000 3000; place = 1 }
+newRun = record { station = bornOf settings; place = 1 }
 
 -- a run in a block of a stream: how many of its bytes it has taken, and what it has written
 pub record Work : Type 0 where

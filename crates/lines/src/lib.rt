@@ -10,6 +10,7 @@ use records::stream::cut;
 use std::num::wrapping_add_u64;
 use table::Answer;
 use table::Outcome;
+use table::Settings;
 use table::Station;
 ghost use mathlib.Core.Path.{_≡_};
 ghost use Prim.Native.Nat.{_+_, _≤_, min, max};
@@ -134,7 +135,13 @@ impl Run {
     pub fn new() -> Run
         ensures { λ r. ⌜ r ≡ newRun ⌝ }
     {
-        let birth = Station::new(100, 50, 2000, 3000);
+        let settings = Settings {
+            capacity: 100,
+            prep: 50,
+            overall: 2000,
+            guard: 3000,
+        };
+        let birth = Station::new(settings);
         let station = birth.station;
         Run { station, place: 1 }
     }

@@ -15,12 +15,12 @@ use Rattle.pair.proofs.Directions.{direction}
 use Rattle.pair.proofs.Invariant.{Invariant}
 
 pub fresh-reached : (x : Station) → Fresh x → Reached x
-fresh-reached x f = rw (f .born) (born (f .capacity) (f .prep) (f .overall) (f .guard))
+fresh-reached x f = rw (f .born) (born (f .settings))
 
 -- A fresh station has no record.
 no-id : (x : Station) → Fresh x → (i : ℕ) → times i (ids x) ≡ 0
 unfolding count
-no-id x f i = rw (f .born, fresh (f .capacity) (f .prep) (f .overall) (f .guard) .0)
+no-id x f i = rw (f .born, fresh (f .settings) .0)
 
 empty : (x : Station) → Fresh x → (p i : ℕ) → (someOut (out x p i) ≡ true) ⊎ (someHeld (held x p i) ≡ true) → ⊥
 empty x f p i there = omega (arith, laws (fresh-reached x f) .view p i there, no-id x f i)

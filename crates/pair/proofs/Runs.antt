@@ -8,7 +8,7 @@ use Rattle.laws.proofs.Tests.{both-true}
 use Rattle.records.specs.Record.{bytesOf}
 use Rattle.promises.specs.Cases as cases
 use Rattle.handover.specs.Events.{message}
-use Rattle.table.specs.Step.{bornOf, stepOf}
+use Rattle.table.specs.Step.{stepOf}
 use Rattle.promises.specs.Views.{Prepared, out}
 use Rattle.pair.specs.Theorem.{Settled, Settles}
 use Rattle.pair.specs.World.{Side, A, B, Answered, Silent, Refused, Fixed, Handover, World, start, Run, begin}
@@ -22,9 +22,9 @@ abbrev pub peer : Side → ℕ
 peer A = 2
 peer B = 1
 
--- both fresh, of capacity 100, with timers of 50, 2,000 and 3,000 ms
+-- both fresh, with the settings of the worked cases
 abbrev pub both : World
-both = start (λ s. bornOf 100 50 2000 3000)
+both = start (λ s. cases.freshly)
 
 -- ---- what they do, in handover 1 of A: its Old ID is 0, and so is the New ID that B gives it
 
@@ -70,7 +70,7 @@ ticks s time = does s (tick time)
 -- ---- what becomes of it
 
 pub fresh : Run peer both
-fresh = begin (λ s. bornOf 100 50 2000 3000) (λ s. record { capacity = 100; prep = 50; overall = 2000; guard = 3000; born = refl })
+fresh = begin (λ s. cases.freshly) (λ s. record { settings = cases.settings; born = refl })
 
 -- what is told of it: what B answered, whether the UE arrived, whether its release came while A stood prepared, its one ending
 abbrev pub history : Answered → Bool → Bool → ℕ → Handover

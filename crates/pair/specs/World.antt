@@ -8,6 +8,7 @@ use lib.Dec.{leb, eqb}
 use Rattle.records.specs.Record.{InRange}
 use Rattle.records.specs.declared.Record.{Record}
 use Rattle.table.specs.declared.Answer.{Answer}
+use Rattle.table.specs.declared.Settings.{Settings}
 use Rattle.table.specs.declared.Station.{Station}
 use Rattle.table.specs.Step.{stepOf, bornOf}
 use Rattle.promises.specs.Views.{Outgoing, NotOut, Preparing, Prepared, someOut, someHeld, out, held, sent, ending, to, issued}
@@ -252,11 +253,8 @@ start fresh =
     }
 
 pub record Fresh (x : Station) : Type 0 where
-  pub capacity : ℕ
-  pub prep : ℕ
-  pub overall : ℕ
-  pub guard : ℕ
-  pub born : x ≡ bornOf capacity prep overall guard
+  pub settings : Settings
+  pub born : x ≡ bornOf settings
 
 module _ (peer : Side → ℕ) where
   -- A station takes an event, its own or the oldest message to it.

@@ -15,7 +15,7 @@ use Rattle.table.specs.Table.{add}
 use Rattle.table.proofs.Counting.{issue-small}
 use Rattle.table.proofs.Finding.{found-here, set-each}
 use Rattle.fields.proofs.Forms.{neighbour-within, old-within, new-within}
-use Rattle.table.proofs.Soundness.{born-as, sound}
+use Rattle.table.proofs.Soundness.{sound}
 use Rattle.promises.proofs.Turns.{Turn, starts, admits, turns, Change, stays, stores, prepares, serves, ends, turn}
 
 abbrev pub Bounded : Entry → Type 0
@@ -40,8 +40,6 @@ module _ (s : Station) (sound : Sound s) (all : (j : ℕ) → j < 64 → Bounded
   turn-bounded (turns t) = λ j h. change-bounded (t .change j h) (all j h)
 
 pub bounded : {s : Station} → Reached s → (j : ℕ) → j < 64 → Bounded (getD (s .entries) j blank)
-bounded (born capacity prep overall guard) =
-    born-as (λ s. (j : ℕ) → j < 64 → Bounded (getD (s .entries) j blank))
-    (λ _ _ _ _ j h. rw (getD-replicate 64 j blank blank h) (omega arith, omega arith, omega arith)) capacity prep overall guard
+bounded (born settings) = λ j h. rw (getD-replicate 64 j blank blank h) (omega arith, omega arith, omega arith)
 bounded (stepped {s} before e _ bearers room) =
     turn-bounded s (sound before) (bounded before) (turn s (sound before) e bearers room)

@@ -17,17 +17,18 @@ use Rattle.bearers.specs.Admission.{those, turnsFrom, freeAt, verdict}
 use Rattle.sets.specs.Sets as sets
 use Rattle.table.specs.declared.Answer.{Answer}
 use Rattle.table.specs.declared.Found.the-variants.{At, Nothing}
+use Rattle.table.specs.declared.Settings.{Settings}
 use Rattle.table.specs.declared.Station.{Station}
 use Rattle.handover.specs.Events.{message}
 use Rattle.fields.specs.Fields.{wellFormed}
 use Rattle.handover.specs.Numbers.{isFree, blank, ownIs, anyOf, nextAfter, issueFrom}
 use Rattle.table.specs.Reached.{Reached, born, stepped}
-use Rattle.table.specs.Step.{stepOf, issue, birthOf}
+use Rattle.table.specs.Step.{stepOf, issue, least, birthOf}
 use Rattle.table.specs.Table.{find, findFrom, dueFrom}
 use Rattle.fields.proofs.Forms.{used-in-range}
 use Rattle.handover.proofs.Issuing.{issue-free, issue-used}
 use Rattle.promises.proofs.Rows.{row-step, start-step}
-use Rattle.promises.specs.Cases.{Seen, Case, freshly, preparing, stationWith, issuedLast, startOf, bytesIn, runs, Holds, numbered, request, start, cancel, cases, noCase}
+use Rattle.promises.specs.Cases.{Seen, Case, settings, freshly, preparing, stationWith, issuedLast, startOf, bytesIn, runs, Holds, numbered, request, start, cancel, cases, noCase}
 
 -- ---- a station that issued 4,095 last
 
@@ -58,7 +59,7 @@ pub request-small : (bearers : List Record) → length bearers ≤ 255 → InRan
 request-small bearers h = in-bytes 1 3 7 0 (length bearers) (omega arith) (omega arith) (omega arith) (omega arith) h
 
 pub fresh-reached : Reached freshly
-fresh-reached = born 100 50 2000 3000
+fresh-reached = born settings
 
 -- A fresh station comes to one: a start leaves own 0 preparing; and each start and its cancel after it issue one number more.
 
@@ -125,8 +126,11 @@ all-cases n =
 -- ---- births
 
 -- The least and the greatest settings are taken, and one less or one more of any is not, by computation.
+abbrev settingsOf : ℕ → ℕ → ℕ → ℕ → Settings
+settingsOf capacity prep overall guard = record { capacity = capacity; prep = prep; overall = overall; guard = guard }
+
 abbrev replyTo : ℕ → ℕ → ℕ → ℕ → ℕ
-replyTo capacity prep overall guard = birthOf capacity prep overall guard .reply
+replyTo capacity prep overall guard = birthOf (settingsOf capacity prep overall guard) .reply
 
 pub birth-limits :
     replyTo 0 1 1 1
@@ -152,5 +156,5 @@ pub birth-limits :
 birth-limits = refl
 
 -- One setting out of range replaces all four.
-pub birth-refused : birthOf 100 0 2000 3000 .station ≡ birthOf 0 1 1 1 .station
+pub birth-refused : birthOf (settingsOf 100 0 2000 3000) .station ≡ birthOf least .station
 birth-refused = refl

@@ -25,7 +25,6 @@ use Rattle.table.specs.Step.{stepOf, verdictsOf}
 use Rattle.table.specs.Table.{findFrom}
 use Rattle.promises.proofs.Cases.{issued, fresh-reached, start-small, request-small}
 use Rattle.table.proofs.Parts.{Part, as-refusal, as-response, as-failure, as-grant, as-start, as-reset, as-idle, as-tick, as-event, part}
-use Rattle.table.proofs.Soundness.{born-as}
 
 -- The step meets the contract.
 pub step-meets : Meets (λ s e bearers verdicts. (stepOf s e bearers (length verdicts), verdictsOf s e bearers verdicts))
@@ -114,8 +113,7 @@ module _ (f : Stepper) (meets : Meets f) where
 
   -- So does the next: a station that issued 0 is not fresh.
   not-fresh : IsFresh (issuedLast 0) → ⊥
-  not-fresh (capacity, prep, overall, guard, same) =
-      eqb-false 0 4095 refl (ap (λ (s : Station). s .last) same ∙ born-as (λ s. s .last ≡ 4095) (λ _ _ _ _. refl) capacity prep overall guard)
+  not-fresh (settings, same) = eqb-false 0 4095 refl (ap (λ (s : Station). s .last) same)
 
   pub not-echoing-later : EchoesLater f → ⊥
   unfolding findFrom anyOf issueFrom

@@ -14,6 +14,7 @@ use Rattle.laws.proofs.Tests.{by-cases, both-true}
 use Rattle.records.specs.declared.Record.{Record}
 use Rattle.table.specs.declared.Answer.{Answer}
 use Rattle.handover.specs.declared.Entry.{Entry}
+use Rattle.table.specs.declared.Settings.{Settings}
 use Rattle.table.specs.declared.Station.{Station}
 use Rattle.handover.specs.Numbers.{isFree, blank, own}
 use Rattle.table.specs.Reached.{Reached}
@@ -23,14 +24,14 @@ use Rattle.promises.specs.Views.{count, times, ownIds, ids, last, someOu
 use Rattle.promises.proofs.Answers.{takes-of, nine-of}
 use Rattle.promises.proofs.Making.{made-issues, made, made-same}
 use Rattle.promises.proofs.Sides.{nothing-new, turned-issues-none, turned-source, turned-target, turned-due}
-use Rattle.table.proofs.Soundness.{born-as, sound, sound-step}
+use Rattle.table.proofs.Soundness.{sound, sound-step}
 use Rattle.promises.proofs.Turns.{Turn, starts, admits, turns, turn}
 use Rattle.promises.proofs.Viewing.{passes, count-own, times-own, named-at}
 
 -- A fresh station has no record, and is as if 4,095 had been issued.
-pub fresh : (capacity prep overall guard : ℕ) → (ids (bornOf capacity prep overall guard) ≡ []) × (last (bornOf capacity prep overall guard) ≡ 4095)
+pub fresh : (settings : Settings) → (ids (bornOf settings) ≡ []) × (last (bornOf settings) ≡ 4095)
 unfolding ids ownIds last
-fresh = born-as (λ s. (ids s ≡ []) × (last s ≡ 4095)) (λ _ _ _ _. (refl, refl))
+fresh settings = (refl, refl)
 
 -- ---- the laws of a station
 

@@ -35,10 +35,7 @@ pub record OthersKept (n : ℕ) (s after : Station) : Type 0 where
   pub its : (i : ℕ) → isOf n (getD (s .entries) i blank) ≡ true → isFree (getD (after .entries) i blank) ≡ false → isOf n (getD (after .entries) i blank) ≡ true
   pub clock : after .clock ≡ s .clock
   pub last : after .last ≡ s .last
-  pub capacity : after .capacity ≡ s .capacity
-  pub prep : after .prep ≡ s .prep
-  pub overall : after .overall ≡ s .overall
-  pub guard : after .guard ≡ s .guard
+  pub settings : after .settings ≡ s .settings
 
 -- An event that concerns a neighbour is not about a record that is not that neighbour's.
 not-about : (e : Record) (r : Entry) → concernsNeighbour (e .kind) ≡ true → isOf (e .neighbour) r ≡ false → about e r ≡ false
@@ -48,23 +45,20 @@ not-about e r concerns other =
 module _ (s : Station) (e : Record) (concerns : concernsNeighbour (e .kind) ≡ true) where
   about-keeps : (found : Found) → find (about e) s ≡ found → OthersKept (e .neighbour) s (aboutOne e found s .station)
   about-keeps Nothing _ =
-      record { others = λ _ _. refl; its = λ _ of _. of; clock = refl; last = refl; capacity = refl; prep = refl; overall = refl; guard = refl }
+      record { others = λ _ _. refl; its = λ _ of _. of; clock = refl; last = refl; settings = refl }
   about-keeps (At k) found =
       let here = found-here (about e) s k found in
       let x = getD (s .entries) k blank in
-      let r = decide e x (s .clock + s .overall) .entry in
+      let r = decide e x (s .clock + s .settings .overall) .entry in
       let its-own = both-true (not (isFree x)) (eqb (x .neighbour) (e .neighbour)) (about-of e x concerns (here .1)) .1 in
       record {
         others = λ i other. getD-set-other (s .entries) k i r blank (λ same. true≢false (sym (here .1) ∙ not-about e x concerns (rw same at other)));
         its = set-each (λ i y. isOf (e .neighbour) (getD (s .entries) i blank) ≡ true → isFree y ≡ false → isOf (e .neighbour) y ≡ true) (s .entries) k r (here .0)
-            (λ _ left. rw left (rw (← decided-keeps e x (s .clock + s .overall) left .0) at its-own))
+            (λ _ left. rw left (rw (← decided-keeps e x (s .clock + s .settings .overall) left .0) at its-own))
             (λ i _ of _. of);
         clock = refl;
         last = refl;
-        capacity = refl;
-        prep = refl;
-        overall = refl;
-        guard = refl;
+        settings = refl;
       }
 
   reset-keeps : OthersKept (e .neighbour) s (reset e s)
@@ -74,10 +68,7 @@ module _ (s : Station) (e : Record) (concerns : concernsNeighbour (e .kind) ≡ 
         its = λ i of. rw (reset-at e s i) (by-cases (resets e (getD (s .entries) i blank)) (λ t. rw t (λ used. absurd (true≢false used))) (λ t. rw t (λ _. of)));
         clock = refl;
         last = refl;
-        capacity = refl;
-        prep = refl;
-        overall = refl;
-        guard = refl;
+        settings = refl;
       }
 
 module _ (s : Station) (e : Record) (bearers : List ℕ) (room : ℕ) (formed : wellFormed e ≡ true) where
@@ -93,7 +84,7 @@ module _ (s : Station) (e : Record) (bearers : List ℕ) (room : ℕ) (formed : 
     where
       at-one : (found : Found) → (k : ℕ) × ((i : ℕ) → (i ≡ k → ⊥) → getD (aboutOne e found s .station .entries) i blank ≡ getD (s .entries) i blank)
       at-one Nothing = (0, λ _ _. refl)
-      at-one (At k) = (k, λ i other. getD-set-other (s .entries) k i (decide e (getD (s .entries) k blank) (s .clock + s .overall) .entry) blank other)
+      at-one (At k) = (k, λ i other. getD-set-other (s .entries) k i (decide e (getD (s .entries) k blank) (s .clock + s .settings .overall) .entry) blank other)
 
   -- A reset, and the loss of a neighbour, leave every place but that neighbour's records as it was, and the clock, the last own ID and
   -- the settings.

@@ -6,12 +6,13 @@ use lib.ListN.{length}
 use Rattle.records.specs.declared.Record.{Record}
 use Rattle.table.specs.declared.Answer.{Answer}
 use Rattle.table.specs.declared.Birth.{Birth}
+use Rattle.table.specs.declared.Settings.{Settings}
 use Rattle.table.specs.declared.Station.{Station}
 use Rattle.table.specs.Step.{birthOf, stepOf, verdictsOf}
 
 -- Of the same settings there is one birth.
-pub new-once : (capacity prep overall guard : ℕ) (a b : Birth) → a ≡ birthOf capacity prep overall guard → b ≡ birthOf capacity prep overall guard → a ≡ b
-new-once capacity prep overall guard a b p q = p ∙ sym q
+pub new-once : (settings : Settings) (a b : Birth) → a ≡ birthOf settings → b ≡ birthOf settings → a ≡ b
+new-once settings a b p q = p ∙ sym q
 
 module _ (s : Station) (e : Record) where
   -- Of the same station and event there is one answer.

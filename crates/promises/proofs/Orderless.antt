@@ -151,7 +151,7 @@ module _ (e : Record) (low : 2 ≤ e .kind) (high : e .kind ≤ 6) where
       let there = counterpart s t has i (here .0) (here .1) in
       true≢false (sym (there .3) ∙ none-at (about e) (t .entries) (there .0) (omega (arith, there .1, other .places)) (found-none (about e) (t .entries) 0 none))
 
-  module _ (s t : Station) (sound : Sound s) (other : Sound t) (same : Same (e .neighbour) s t) (timer : e .kind ≡ 2 → s .clock + s .overall ≡ t .clock + t .overall) where
+  module _ (s t : Station) (sound : Sound s) (other : Sound t) (same : Same (e .neighbour) s t) (timer : e .kind ≡ 2 → s .clock + s .settings .overall ≡ t .clock + t .settings .overall) where
     answers : (f g : Found) → find (about e) s ≡ f → find (about e) t ≡ g → SameAnswer (e .neighbour) (aboutOne e f s) (aboutOne e g t)
     answers Nothing Nothing _ _ = record { outcome = refl; records = same }
     answers Nothing (At j) none found = absurd (never t s other sound (same .back) j found none)
@@ -163,8 +163,8 @@ module _ (e : Record) (low : 2 ≤ e .kind) (high : e .kind ≤ 6) where
         let place : twin .0 ≡ j = about-once e low high t other (twin .0) j (twin .1) (there .0) (twin .3) (there .1) in
         let x = getD (s .entries) i blank in
         let equal : getD (t .entries) j blank ≡ x = rw place at (twin .2) in
-        let d = decide e x (s .clock + s .overall) in
-        let decided : d ≡ decide e (getD (t .entries) j blank) (t .clock + t .overall) = decide-deadline e x (s .clock + s .overall) (t .clock + t .overall) timer ∙ ap (λ (r : Entry). decide e r (t .clock + t .overall)) (sym equal) in
+        let d = decide e x (s .clock + s .settings .overall) in
+        let decided : d ≡ decide e (getD (t .entries) j blank) (t .clock + t .settings .overall) = decide-deadline e x (s .clock + s .settings .overall) (t .clock + t .settings .overall) timer ∙ ap (λ (r : Entry). decide e r (t .clock + t .settings .overall)) (sym equal) in
         subst (λ (c : Decision). SameAnswer (e .neighbour) (carried i d s) (carried j c t)) decided
         (record {
           outcome = refl;
@@ -178,7 +178,7 @@ module _ (e : Record) (low : 2 ≤ e .kind) (high : e .kind ≤ 6) where
 -- acknowledge, by the clock and the overall timer: two stations with the same of these answer the same, and have the same records of
 -- that neighbour afterwards.
 pub message-depends-on-sender : (s t : Station) → Sound s → Sound t → (e : Record) (bearers more : List ℕ) (room space : ℕ) → wellFormed e ≡ true → 2 ≤ e .kind → e .kind ≤ 6
-    → Same (e .neighbour) s t → (e .kind ≡ 2 → (s .clock ≡ t .clock) × (s .overall ≡ t .overall))
+    → Same (e .neighbour) s t → (e .kind ≡ 2 → (s .clock ≡ t .clock) × (s .settings .overall ≡ t .settings .overall))
     → SameAnswer (e .neighbour) (stepOf s e bearers room) (stepOf t e more space)
 message-depends-on-sender s t sound other e bearers more room space formed low high same timer =
     rw (step-about s e bearers room formed low high, step-about t e more space formed low high)

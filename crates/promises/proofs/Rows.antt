@@ -171,10 +171,10 @@ module _ (s : Station) (e : Record) (bearers : List ℕ) (room : ℕ) (formed : 
 
   -- An event of a row's kind about a record in the row's state does what the row says, with the deadline clock plus overall.
   pub row-step : (i n : ℕ) → e .kind ≡ getD rows n lastRow .kind → find (about e) s ≡ At i → getD (s .entries) i blank .state ≡ getD rows n lastRow .state
-      → stepOf s e bearers room ≡ carried i (getD rows n lastRow .does e (getD (s .entries) i blank) (s .clock + s .overall)) s
+      → stepOf s e bearers room ≡ carried i (getD rows n lastRow .does e (getD (s .entries) i blank) (s .clock + s .settings .overall)) s
   row-step i n kind found state =
       about-step n kind (At i) found
-      ∙ ap (λ (d : Decision). carried i d s) (rows-hold e (getD (s .entries) i blank) (s .clock + s .overall) n kind state)
+      ∙ ap (λ (d : Decision). carried i d s) (rows-hold e (getD (s .entries) i blank) (s .clock + s .settings .overall) n kind state)
 
   -- One that is about no record is refused with 2.
   pub lost-step : (n : ℕ) → e .kind ≡ getD rows n lastRow .kind → find (about e) s ≡ Nothing → stepOf s e bearers room ≡ refused 2 s

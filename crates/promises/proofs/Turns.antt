@@ -190,7 +190,7 @@ module _ (s : Station) (sound : Sound s) (e : Record) (bearers : List ℕ) (room
       let t = decided-turned (at (e .time) s) (sound-at s sound (e .time) (time-within e formed)) e formed i 0 (due-place s sound e i found) (soonest-due e fifteen s i found .1) in
       turns (record { last = t .last; change = t .change; says = t .says })
   turn-of (as-event i formed _ found) =
-      turns (decided-turned s sound e formed i (s .clock + s .overall) (found-place s sound (about e) i found) (found-here (about e) s i found .1))
+      turns (decided-turned s sound e formed i (s .clock + s .settings .overall) (found-place s sound (about e) i found) (found-here (about e) s i found .1))
 
   -- Every step does one of these.
   pub turn : Turn s e (stepOf s e bearers room)

@@ -182,7 +182,7 @@ module _ (s : Station) (sound : Sound s) (e : Record) (bearers : List ℕ) where
       carried-accounts i 0 (e .time) (due-place s sound e i found) (rw fifteen)
       (λ _. ap (λ (k : ℕ). freedBy k e s) fifteen ∙ ap (λ (f : Found). unitsAt f s) found)
   part-accounts (as-event i _ single found) =
-      carried-accounts i (s .clock + s .overall) (s .clock) (found-place s sound (about e) i found) (no-request (e .kind) oneRecord single (λ same. omega arith))
+      carried-accounts i (s .clock + s .settings .overall) (s .clock) (found-place s sound (about e) i found) (no-request (e .kind) oneRecord single (λ same. omega arith))
       (λ gone.
       let ends : keeps (e .kind) ≡ false = refuted (keeps (e .kind)) (λ t. true≢false (sym (keeps-leaves (e .kind) (getD (s .entries) i blank .state) t) ∙ gone)) in
       rw (single, ends) (ap (λ (f : Found). unitsAt f s) found))

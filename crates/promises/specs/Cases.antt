@@ -7,11 +7,13 @@ use lib.ListN.{length, replicate}
 use Rattle.records.specs.declared.Record.{Record}
 use Rattle.records.specs.Record.{bytesOf}
 use Rattle.handover.specs.declared.Entry.{Entry}
+use Rattle.table.specs.declared.Settings.{Settings}
 use Rattle.table.specs.declared.Station.{Station}
 use Rattle.handover.specs.Events.{message, silence}
 use Rattle.handover.specs.Numbers.{blank}
 use Rattle.table.specs.Reached.{Reached}
 use Rattle.table.specs.Step.{stepOf, verdictsOf, bornOf}
+use Rattle.table.specs.Table.{holding}
 
 -- an event, and the bearers that follow it
 pub record Event : Type 0 where
@@ -33,8 +35,11 @@ pub record Case : Type 0 where
 -- ---- where cases start
 
 -- "Capacity 100, prep 50, overall 2,000, guard 3,000"
+abbrev pub settings : Settings
+settings = record { capacity = 100; prep = 50; overall = 2000; guard = 3000 }
+
 abbrev pub freshly : Station
-freshly = bornOf 100 50 2000 3000
+freshly = bornOf settings
 
 -- what a start towards neighbour 3 with bearer 5 leaves there, with an own ID
 abbrev pub preparing : ℕ → Entry
@@ -53,17 +58,7 @@ preparing id =
 
 -- such a station with these records, that issued a number last
 abbrev pub stationWith : List Entry → ℕ → Station
-stationWith entries last =
-    record {
-      entries = entries;
-      clock = 0;
-      last = last;
-      used = 0;
-      capacity = 100;
-      prep = 50;
-      overall = 2000;
-      guard = 3000;
-    }
+stationWith entries last = holding entries last 0 freshly
 
 -- its own 0 is preparing, and it issued another number last
 abbrev pub issuedLast : ℕ → Station

@@ -7,6 +7,7 @@ use lib.ListN.{length}
 use Rattle.records.specs.declared.Record.{Record}
 use Rattle.records.specs.Record.{InRange, AreBytes}
 use Rattle.table.specs.declared.Answer.{Answer}
+use Rattle.table.specs.declared.Settings.{Settings}
 use Rattle.table.specs.declared.Station.{Station}
 use Rattle.table.specs.Reached.{Reached}
 use Rattle.table.specs.Step.{stepOf, verdictsOf, bornOf}
@@ -33,7 +34,7 @@ Echoes f = (s : Station) (e : Record) (bearers verdicts : List ℕ) → f s e be
 
 -- "one that steps the first event rightly and merely echoes later": whatever it does at a fresh station
 abbrev pub IsFresh : Station → Type 0
-IsFresh s = (capacity : ℕ) × (prep : ℕ) × (overall : ℕ) × (guard : ℕ) × (s ≡ bornOf capacity prep overall guard)
+IsFresh s = (settings : Settings) × (s ≡ bornOf settings)
 
 abbrev pub EchoesLater : Stepper → Type 0
 EchoesLater f = (s : Station) (e : Record) (bearers verdicts : List ℕ) → (IsFresh s → ⊥) → f s e bearers verdicts .0 .station ≡ s

@@ -29,12 +29,10 @@ module _ (s : Station) (sound : Sound s) where
         distinct = sound .distinct;
         unique = sound .unique;
         sum = sound .sum;
-        capacity = sound .capacity;
+        used = sound .used;
         clock = small;
         last = sound .last;
-        prep = sound .prep;
-        overall = sound .overall;
-        guard = sound .guard;
+        settings = sound .settings;
       }
 
   module _ (i : ℕ) (r : Entry) (place : i < 64) (fit : Fit r) where
@@ -60,12 +58,10 @@ module _ (s : Station) (sound : Sound s) where
           distinct = λ k. omega (arith, own k, sound .distinct k, total-set (ownTimes k) (s .entries) i r blank inside);
           unique = λ n o. omega (arith, held n o, sound .unique n o, total-set (heldTimes n o) (s .entries) i r blank inside);
           sum = omega (arith, sound .sum);
-          capacity = omega (arith, sound .sum, sound .capacity);
+          used = omega (arith, sound .sum, sound .used);
           clock = sound .clock;
           last = sound .last;
-          prep = sound .prep;
-          overall = sound .overall;
-          guard = sound .guard;
+          settings = sound .settings;
         }
 
     -- A record may be made at a free place, whose own ID, and if it is held whose neighbour and Old ID, no other has, and whose
@@ -73,7 +69,7 @@ module _ (s : Station) (sound : Sound s) where
     pub sound-add : (issued : ℕ) → issued < 4096 → isFree (getD (s .entries) i blank) ≡ true
         → ((k : ℕ) → total (ownTimes k) (s .entries) + ownTimes k r ≤ 1)
         → ((n o : ℕ) → total (heldTimes n o) (s .entries) + heldTimes n o r ≤ 1)
-        → s .used + r .units ≤ s .capacity
+        → s .used + r .units ≤ s .settings .capacity
         → Sound (add i issued r s)
     sound-add issued small free own held units =
         let changed = total-set (λ x. x .units) (s .entries) i r blank inside in
@@ -84,12 +80,10 @@ module _ (s : Station) (sound : Sound s) where
           distinct = λ k. omega (arith, own k, total-set (ownTimes k) (s .entries) i r blank inside);
           unique = λ n o. omega (arith, held n o, total-set (heldTimes n o) (s .entries) i r blank inside);
           sum = omega (arith, sound .sum, rw empty at changed);
-          capacity = (units, sound .capacity .1);
+          used = units;
           clock = sound .clock;
           last = small;
-          prep = sound .prep;
-          overall = sound .overall;
-          guard = sound .guard;
+          settings = sound .settings;
         }
 
   -- The records of a neighbour may end.
@@ -101,12 +95,10 @@ module _ (s : Station) (sound : Sound s) where
         distinct = λ k. omega (arith, sound .distinct k, fewer (ownTimes k) refl);
         unique = λ n o. omega (arith, sound .unique n o, fewer (heldTimes n o) refl);
         sum = omega (arith, sound .sum, parts);
-        capacity = omega (arith, sound .capacity);
+        used = omega (arith, sound .used);
         clock = sound .clock;
         last = sound .last;
-        prep = sound .prep;
-        overall = sound .overall;
-        guard = sound .guard;
+        settings = sound .settings;
       }
     where
       left-fits : (r : Entry) → Fit r → Fit (leftOf e r)

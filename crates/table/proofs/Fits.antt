@@ -114,8 +114,8 @@ module _ (s : Station) (sound : Sound s) (e : Record) where
         state = omega arith;
         idle = λ f. absurd (false≢true f);
         id = issue-small s sound;
-        timer = lt-ltb 0 (s .clock + s .prep) (omega (arith, sound .prep));
-        deadline = omega (arith, sound .prep, sound .clock);
+        timer = lt-ltb 0 (s .clock + s .settings .prep) (omega (arith, sound .settings .prep));
+        deadline = omega (arith, sound .settings .prep, sound .clock);
         units = λ _. refl;
         admitted = λ _. refl;
         status = λ i. absurd (false≢true i);
@@ -127,8 +127,8 @@ module _ (s : Station) (sound : Sound s) (e : Record) where
         state = omega arith;
         idle = λ f. absurd (false≢true f);
         id = issue-small s sound;
-        timer = lt-ltb 0 (s .clock + s .guard) (omega (arith, sound .guard));
-        deadline = omega (arith, sound .guard, sound .clock);
+        timer = lt-ltb 0 (s .clock + s .settings .guard) (omega (arith, sound .settings .guard));
+        deadline = omega (arith, sound .settings .guard, sound .clock);
         units = λ i. absurd (true≢false i);
         admitted = λ o. absurd (false≢true o);
         status = λ _. refl;

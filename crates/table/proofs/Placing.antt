@@ -34,7 +34,7 @@ module _ (s : Station) (sound : Sound s) where
         place = h;
         places = sound .places;
         back = omega (arith, units, sound .sum);
-        out = omega (arith, units, fewer, sound .sum, sound .capacity);
+        out = omega (arith, units, fewer, sound .sum, sound .used, sound .settings .capacity);
       }
 
 -- The clock does not matter to that.

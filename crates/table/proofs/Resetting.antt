@@ -96,7 +96,7 @@ module _ (e : Record) (s : Station) (sound : Sound s) where
           place = h;
           places = simp (length-append, length-map, length-take, length-drop) (omega (arith, sound .places));
           back = rw (changed-here (leftOf e) (s .entries) (sound .places) i h) (omega (arith, enough));
-          out = omega (arith, sound .capacity);
+          out = omega (arith, sound .used, sound .settings .capacity);
         }
 
     -- Ending the record at the place, if the reset ends it, gives the next.

@@ -1,7 +1,7 @@
 -- Every station that a fresh one reached is sound.
 use Prim.Native.Nat.{ℕ, _+_, _*_, _≤_, _<_}
 use mathlib.Core.Path.{_≡_, refl, sym}
-use mathlib.Core.Bool.{true, false, _&&_, true≢false}
+use mathlib.Core.Bool.{true, false, cond, _&&_, true≢false}
 use mathlib.Core.List.{List}
 use borrow.Author.Tests.{eqb-true, leb-true}
 use native.Mathlib.Omega.{arith}
@@ -15,12 +15,13 @@ use Rattle.bearers.specs.Admission.{judgeable}
 use Rattle.table.specs.declared.Answer.{Answer}
 use Rattle.handover.specs.declared.Entry.{Entry}
 use Rattle.table.specs.declared.Found.the-variants.{At, Nothing}
+use Rattle.table.specs.declared.Settings.{Settings}
 use Rattle.table.specs.declared.Station.{Station}
 use Rattle.handover.specs.Events.{about, decide}
 use Rattle.handover.specs.Numbers.{isFree, isHeld, own, blank}
 use Rattle.table.specs.Reached.{Reached, born, stepped}
-use Rattle.table.specs.Sound.{Fit, Sound, ownTimes, heldTimes}
-use Rattle.table.specs.Step.{issue, stepOf, bornOf, fresh, isTimer, settled, started, heldFor, admission, taken, freeUnits}
+use Rattle.table.specs.Sound.{Fit, Settled, Sound, ownTimes, heldTimes}
+use Rattle.table.specs.Step.{issue, stepOf, bornOf, fresh, isTimer, settled, least, started, heldFor, admission, taken, freeUnits}
 use Rattle.table.specs.Table.{find, at, put, add}
 use Rattle.table.proofs.Changes.{sound-at, sound-put, sound-add, sound-reset}
 use Rattle.table.proofs.Counting.{issue-small, issue-unused, own-once}
@@ -56,7 +57,7 @@ module _ (s : Station) (sound : Sound s) where
   -- A record that fits may be made at a free place, with the own ID that is issued.
   sound-made : (i : ℕ) (r : Entry) → find isFree s ≡ At i → Fit r → own r ≡ issue s
       → ((n o : ℕ) → total (heldTimes n o) (s .entries) + heldTimes n o r ≤ 1)
-      → s .used + r .units ≤ s .capacity → Sound (add i (issue s) r s)
+      → s .used + r .units ≤ s .settings .capacity → Sound (add i (issue s) r s)
   sound-made i r found fit issued held units =
       sound-add s sound i r (found-place s sound isFree i found) fit (issue s) (issue-small s sound) (found-here isFree s i found .1)
       (λ k. own-once (s .entries) r k (sound .distinct k) (rw issued (issue-unused s sound i found))) held units
@@ -82,16 +83,16 @@ module _ (s : Station) (sound : Sound s) where
         let a = admission (taken e bearers) s in
         let judged = both-true (leb (e .number * 32) (length bearers)) (judgeable (taken e bearers) room) whole .1 in
         sound-made i (heldFor e a s) free (held-fits s sound e a) refl (held-once e (taken e bearers) one new)
-        (omega (arith, sound .capacity, units-free (taken e bearers) (freeUnits s) room judged))
+        (omega (arith, sound .used, units-free (taken e bearers) (freeUnits s) room judged))
     sound-part (as-start i _ _ free) =
-        sound-made i (started e s) free (started-fits s sound e) refl (λ n o. omega (arith, sound .unique n o)) (omega (arith, sound .capacity))
+        sound-made i (started e s) free (started-fits s sound e) refl (λ n o. omega (arith, sound .unique n o)) (omega (arith, sound .used))
     sound-part (as-reset _) = sound-reset s sound e
     sound-part (as-idle formed _) = sound-at s sound (e .time) (time-within e formed)
     sound-part (as-tick i formed fifteen found) =
         sound-decided (at (e .time) s) (sound-at s sound (e .time) (time-within e formed)) e i 0 (due-place s sound e i found) (λ two. absurd (omega arith)) (omega arith)
     sound-part (as-event i _ _ found) =
-        sound-decided s sound e i (s .clock + s .overall) (found-place s sound (about e) i found)
-        (λ _. omega (arith, sound .overall)) (omega (arith, sound .overall, sound .clock))
+        sound-decided s sound e i (s .clock + s .settings .overall) (found-place s sound (about e) i found)
+        (λ _. omega (arith, sound .settings .overall)) (omega (arith, sound .settings .overall, sound .clock))
 
 -- A step leaves a sound station sound.
 pub sound-step : {s : Station} → Sound s → (e : Record) (bearers : List ℕ) (room : ℕ) → Sound (stepOf s e bearers room .station)
@@ -99,26 +100,19 @@ sound-step {s} sound e bearers room = sound-part s sound e bearers room (part s 
 
 -- ---- from birth on
 
--- A station is born fresh, with the settings that it is given or with the least.
-pub born-as : (P : Station → Type 0) → ((capacity prep overall guard : ℕ) → P (fresh capacity prep overall guard)) → (capacity prep overall guard : ℕ) → P (bornOf capacity prep overall guard)
-born-as P each capacity prep overall guard =
-    by-cases (settled capacity prep overall guard) (λ t. rw t (each capacity prep overall guard)) (λ t. rw t (each 0 1 1 1))
-
 -- A fresh station with settings in range is sound.
-sound-fresh : (capacity prep overall guard : ℕ) → capacity ≤ 1000000000 → (1 ≤ prep) × (prep ≤ 600000) → (1 ≤ overall) × (overall ≤ 600000) → (1 ≤ guard) × (guard ≤ 600000) → Sound (fresh capacity prep overall guard)
-sound-fresh capacity prep overall guard most p o g =
+sound-fresh : (settings : Settings) → Settled settings → Sound (fresh settings)
+sound-fresh settings settled =
     record {
       places = length-replicate 64 blank;
       fit = λ i h. rw (getD-replicate 64 i blank blank h) fit-blank;
       distinct = λ k. omega (arith, total-replicate (ownTimes k) 64 blank refl);
       unique = λ n o. omega (arith, total-replicate (heldTimes n o) 64 blank refl);
       sum = sym (total-replicate (λ r. r .units) 64 blank refl);
-      capacity = (omega arith, most);
+      used = omega arith;
       clock = omega arith;
       last = omega arith;
-      prep = p;
-      overall = o;
-      guard = g;
+      settings = settled;
     }
 
 -- A timer is 1 to 600,000 ms.
@@ -127,18 +121,26 @@ timer-means t h =
     let both = both-true (leb 1 t) (leb t 600000) h in
     (leb-true 1 t (both .0), leb-true t 600000 (both .1))
 
+-- Settings that pass the test are in range, and so are the least.
+settled-means : (x : Settings) → settled x ≡ true → Settled x
+settled-means x t =
+    let c = both-true (leb (x .capacity) 1000000000 && isTimer (x .prep) && isTimer (x .overall)) (isTimer (x .guard)) t in
+    let b = both-true (leb (x .capacity) 1000000000 && isTimer (x .prep)) (isTimer (x .overall)) (c .0) in
+    let a = both-true (leb (x .capacity) 1000000000) (isTimer (x .prep)) (b .0) in
+    record {
+      capacity = leb-true (x .capacity) 1000000000 (a .0);
+      prep = timer-means (x .prep) (a .1);
+      overall = timer-means (x .overall) (b .1);
+      guard = timer-means (x .guard) (c .1);
+    }
+
 -- A station is sound at birth, whatever its settings.
-pub sound-born : (capacity prep overall guard : ℕ) → Sound (bornOf capacity prep overall guard)
-sound-born capacity prep overall guard =
-    by-cases (settled capacity prep overall guard)
-    (λ t.
-    let c = both-true (leb capacity 1000000000 && isTimer prep && isTimer overall) (isTimer guard) t in
-    let b = both-true (leb capacity 1000000000 && isTimer prep) (isTimer overall) (c .0) in
-    let a = both-true (leb capacity 1000000000) (isTimer prep) (b .0) in
-    rw t (sound-fresh capacity prep overall guard (leb-true capacity 1000000000 (a .0)) (timer-means prep (a .1)) (timer-means overall (b .1)) (timer-means guard (c .1))))
-    (λ t. rw t (sound-fresh 0 1 1 1 (omega arith) (omega arith) (omega arith) (omega arith)))
+pub sound-born : (settings : Settings) → Sound (bornOf settings)
+sound-born settings =
+    sound-fresh (cond (settled settings) settings least)
+    (by-cases (settled settings) (λ t. rw t (settled-means settings t)) (λ t. rw t (settled-means least refl)))
 
 -- So every station that a fresh one reached is sound.
 pub sound : {s : Station} → Reached s → Sound s
-sound (born capacity prep overall guard) = sound-born capacity prep overall guard
+sound (born settings) = sound-born settings
 sound (stepped before e _ bearers room) = sound-step (sound before) e bearers room

@@ -7,6 +7,7 @@ use lib.ListN.{length, getD}
 use Rattle.laws.specs.Sums.{total}
 use Rattle.sets.specs.Sets.{within}
 use Rattle.handover.specs.declared.Entry.{Entry}
+use Rattle.table.specs.declared.Settings.{Settings}
 use Rattle.table.specs.declared.Station.{Station}
 use Rattle.handover.specs.Numbers.{isFree, isOutgoing, isIncoming, isHeld, blank, own, ownIs}
 
@@ -32,6 +33,13 @@ ownTimes k r = cond (ownIs k r) 1 0
 abbrev pub heldTimes : ℕ → ℕ → Entry → ℕ
 heldTimes n o r = cond (isHeld r && eqb (r .neighbour) n && eqb (r .old .0) o) 1 0
 
+-- every setting is in range
+pub record Settled (x : Settings) : Type 0 where
+  pub capacity : x .capacity ≤ 1000000000
+  pub prep : (1 ≤ x .prep) × (x .prep ≤ 600000)
+  pub overall : (1 ≤ x .overall) × (x .overall ≤ 600000)
+  pub guard : (1 ≤ x .guard) × (x .guard ≤ 600000)
+
 pub record Sound (s : Station) : Type 0 where
   pub places : length (s .entries) ≡ 64
   pub fit : (i : ℕ) → i < 64 → Fit (getD (s .entries) i blank)
@@ -40,9 +48,7 @@ pub record Sound (s : Station) : Type 0 where
   pub unique : (n o : ℕ) → total (heldTimes n o) (s .entries) ≤ 1
   -- the units in use are the sum over the records, and at most the capacity
   pub sum : s .used ≡ total (λ r. r .units) (s .entries)
-  pub capacity : (s .used ≤ s .capacity) × (s .capacity ≤ 1000000000)
+  pub used : s .used ≤ s .settings .capacity
   pub clock : s .clock ≤ 1000000000000
   pub last : s .last < 4096
-  pub prep : (1 ≤ s .prep) × (s .prep ≤ 600000)
-  pub overall : (1 ≤ s .overall) × (s .overall ≤ 600000)
-  pub guard : (1 ≤ s .guard) × (s .guard ≤ 600000)
+  pub settings : Settled (s .settings)

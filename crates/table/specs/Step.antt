@@ -15,6 +15,7 @@ use Rattle.handover.specs.declared.Entry.{Entry}
 use Rattle.table.specs.declared.Found.{Found}
 use Rattle.table.specs.declared.Found.the-variants.{At, Nothing}
 use Rattle.table.specs.declared.Outcome.{Outcome}
+use Rattle.table.specs.declared.Settings.{Settings}
 use Rattle.table.specs.declared.Station.{Station}
 use Rattle.handover.specs.Numbers.{isFree, blank, nextAfter, issueFrom}
 use Rattle.fields.specs.Fields.{oneRecord, allOfNeighbour, soonestDue, newRecord, aRequest, noChange, sortOfEvent}
@@ -39,7 +40,7 @@ carried i d s = answer (d .reply) (d .ending) 0 (d .message) (put i (d .entry) s
 
 -- "1, 2, 6, 7 for the rest"
 abbrev pub aboutOne : Record → Found → Station → Answer
-aboutOne e (At i) s = carried i (decide e (getD (s .entries) i blank) (s .clock + s .overall)) s
+aboutOne e (At i) s = carried i (decide e (getD (s .entries) i blank) (s .clock + s .settings .overall)) s
 aboutOne e Nothing s = refused 2 s
 
 -- "7 and 14: all outgoing and held records of that neighbour end; 7 sends 8, 14 sends 7; ending 10 even if there was none"
@@ -62,7 +63,7 @@ started e s =
       admitted = 0;
       status = 0;
       units = 0;
-      deadline = s .clock + s .prep;
+      deadline = s .clock + s .settings .prep;
     }
 
 abbrev pub starting : Record → ℕ → Station → Answer
@@ -95,7 +96,7 @@ complete e bearers room = leb (e .number * 32) (length bearers) && judgeable (ta
 
 -- "the free units are the capacity less these"
 abbrev pub freeUnits : Station → ℕ
-freeUnits s = s .capacity - s .used
+freeUnits s = s .settings .capacity - s .used
 
 -- what is admitted of bearers
 abbrev pub admission : List ℕ → Station → Admission
@@ -113,7 +114,7 @@ heldFor e a s =
       admitted = a .admitted;
       status = 0;
       units = a .units;
-      deadline = s .clock + s .guard;
+      deadline = s .clock + s .settings .guard;
     }
 
 -- "for a request sends 3", the reason being the reply number
@@ -182,29 +183,22 @@ verdictsOf s e bearers buffer = cond (eqb (sortOfEvent e) aRequest) (requestVerd
 -- ---- birth
 
 -- a fresh station: "clock 0"; "before any issue it is as if 4,095 had been issued"
-abbrev pub fresh : ℕ → ℕ → ℕ → ℕ → Station
-fresh capacity prep overall guard =
-    record {
-      entries = replicate 64 blank;
-      clock = 0;
-      last = 4095;
-      used = 0;
-      capacity = capacity;
-      prep = prep;
-      overall = overall;
-      guard = guard;
-    }
+abbrev pub fresh : Settings → Station
+fresh settings = record { entries = replicate 64 blank; clock = 0; last = 4095; used = 0; settings = settings }
 
--- "A setting out of range: reply 1 and a fresh station of capacity 0 with all three timers 1 ms."
+-- a timer is 1 to 600,000 ms, the capacity at most 1,000,000,000 units
 abbrev pub isTimer : ℕ → Bool
 isTimer t = leb 1 t && leb t 600000
 
-abbrev pub settled : ℕ → ℕ → ℕ → ℕ → Bool
-settled capacity prep overall guard = leb capacity 1000000000 && isTimer prep && isTimer overall && isTimer guard
+abbrev pub settled : Settings → Bool
+settled x = leb (x .capacity) 1000000000 && isTimer (x .prep) && isTimer (x .overall) && isTimer (x .guard)
 
-abbrev pub bornOf : ℕ → ℕ → ℕ → ℕ → Station
-bornOf capacity prep overall guard = cond (settled capacity prep overall guard) (fresh capacity prep overall guard) (fresh 0 1 1 1)
+-- "A setting out of range: reply 1 and a fresh station of capacity 0 with all three timers 1 ms."
+abbrev pub least : Settings
+least = record { capacity = 0; prep = 1; overall = 1; guard = 1 }
 
-abbrev pub birthOf : ℕ → ℕ → ℕ → ℕ → Birth
-birthOf capacity prep overall guard =
-    record { reply = cond (settled capacity prep overall guard) 0 1; station = bornOf capacity prep overall guard }
+abbrev pub bornOf : Settings → Station
+bornOf settings = fresh (cond (settled settings) settings least)
+
+abbrev pub birthOf : Settings → Birth
+birthOf settings = record { reply = cond (settled settings) 0 1; station = bornOf settings }

@@ -50,10 +50,7 @@ at time s =
       clock = time;
       last = s .last;
       used = s .used;
-      capacity = s .capacity;
-      prep = s .prep;
-      overall = s .overall;
-      guard = s .guard;
+      settings = s .settings;
     }
 
 -- the other three change its records, the own ID last issued and the units in use
@@ -64,10 +61,7 @@ holding entries last used s =
       clock = s .clock;
       last = last;
       used = used;
-      capacity = s .capacity;
-      prep = s .prep;
-      overall = s .overall;
-      guard = s .guard;
+      settings = s .settings;
     }
 
 -- one record is replaced or ended; the units in use follow

@@ -43,17 +43,22 @@ ghost use Rattle.table.specs.Table.{find as findOf, Puts, reset as reset
 ghost use Rattle.table.specs.declared.Found.the-variants.{At};
 ghost use Rattle.table.specs.Sound.{Sound};
 ghost use Rattle.table.specs.Reached.{Reached};
-ghost use Rattle.table.specs.Step.{issue as issueOf, quiet as quietOf, refused as refusedOf, carried as carriedOf, aboutOne, tickOf, startAt, resetOf, failure as failureOf, grantAt, admittedAt, verdictsAt, requestOf, requestVerdicts, stepOf, verdictsOf, isTimer, fresh as freshOf, birthOf};
+ghost use Rattle.table.specs.Step.{issue as issueOf, quiet as quietOf, refused as refusedOf, carried as carriedOf, aboutOne, tickOf, startAt, resetOf, failure as failureOf, grantAt, admittedAt, verdictsAt, requestOf, requestVerdicts, stepOf, verdictsOf, isTimer, settled, fresh as freshOf, birthOf};
 ghost use Rattle.handover.specs.Events.{about};
+
+// The capacity in units, and TRELOCprep, TX2RELOCoverall and the guard in ms.
+pub struct Settings {
+    pub capacity: u32,
+    pub prep: u32,
+    pub overall: u32,
+    pub guard: u32,
+}
 
 pub struct Station {
     entries: [Entry; 64],
     clock: u64,
     used: u32,
-    capacity: u32,
-    prep: u32,
-    overall: u32,
-    guard: u32,
+    settings: Settings,
     last: u16,
 }
 
@@ -107,9 +112,16 @@ fn is_timer(time: u32) -> bool
     (1 <= time) & (time <= 600_000)
 }
 
+// Whether every setting is in range.
+fn is_settled(s: Settings) -> bool
+    ensures { λ r. ⌜ r ≡ settled s ⌝ }
+{
+    (s.capacity <= 1_000_000_000) & is_timer(s.prep) & is_timer(s.overall) & is_timer(s.guard)
+}
+
 // A fresh station.
-fn fresh(capacity: u32, prep: u32, overall: u32, guard: u32) -> Station
-    ensures { λ s. ⌜ s ≡ freshOf capacity prep overall guard ⌝ }
+fn fresh(settings: Settings) -> Station
+    ensures { λ s. ⌜ s ≡ freshOf settings ⌝ }
 {
     let none = blank();
     Station {
@@ -117,29 +129,31 @@ fn fresh(capacity: u32, prep: u32, overall: u32, guard: u32) -> Station
         clock: 0,
         last: 4095,
         used: 0,
-        capacity,
-        prep,
-        overall,
-        guard,
+        settings,
     }
 }
 
 impl Station {
     // A fresh station with these settings: capacity 0 to 1,000,000,000 units, timers 1 to 600,000 ms. If one is out of range
     // the reply is 1, and the station has capacity 0 and timers of 1 ms.
-    pub fn new(capacity: u32, prep: u32, overall: u32, guard: u32) -> Birth
-        ensures { λ r. ⌜ r ≡ birthOf capacity prep overall guard ⌝ }
+    pub fn new(settings: Settings) -> Birth
+        ensures { λ r. ⌜ r ≡ birthOf settings ⌝ }
     {
-        if (capacity <= 1_000_000_000) & is_timer(prep) & is_timer(overall) & is_timer(guard) {
-            Birth {
+        if is_settled(settings) {
+            return Birth {
                 reply: 0,
-                station: fresh(capacity, prep, overall, guard),
-            }
-        } else {
-            Birth {
-                reply: 1,
-                station: fresh(0, 1, 1, 1),
-            }
+                station: fresh(settings),
+            };
+        }
+        let least = Settings {
+            capacity: 0,
+            prep: 1,
+            overall: 1,
+            guard: 1,
+        };
+        Birth {
+            reply: 1,
+            station: fresh(least),
         }
     }
 
@@ -232,7 +246,7 @@ impl Station {
         for i in 0..64 {
             let r = self.entries[i];
             if is_about(e, r, key) {
-                return self.carried(i, decide(e, r, self.clock + self.overall as u64));
+                return self.carried(i, decide(e, r, self.clock + self.settings.overall as u64));
             }
         }
         Answer {
@@ -312,7 +326,7 @@ impl Station {
             admitted: 0,
             status: 0,
             units: 0,
-            deadline: self.clock + self.prep as u64,
+            deadline: self.clock + self.settings.prep as u64,
         };
         Answer {
             outcome: Outcome {
@@ -374,7 +388,7 @@ impl Station {
 
     // What was admitted is held in a free place.
     fn grant(mut self, e: Record, a: Admission, i: usize) -> Answer
-        requires { ⌜ (i < 64) × (a .units ≤ self .capacity - self .used) × Sound self ⌝ }
+        requires { ⌜ (i < 64) × (a .units ≤ self .settings .capacity - self .used) × Sound self ⌝ }
         ensures { λ x. ⌜ x ≡ grantAt e a i self ⌝ }
     {
         if a.admitted == 0 {
@@ -399,7 +413,7 @@ impl Station {
             admitted: a.admitted,
             status: 0,
             units: a.units,
-            deadline: self.clock + self.guard as u64,
+            deadline: self.clock + self.settings.guard as u64,
         };
         Answer {
             outcome: Outcome {
@@ -434,7 +448,7 @@ impl Station {
         let found = self.vacant();
         match found {
             Found::At(i) => {
-                let judged = admit(bearers, self.capacity - self.used, verdicts);
+                let judged = admit(bearers, self.settings.capacity - self.used, verdicts);
                 match judged {
                     Judgement::Given(a) => self.grant(e, a, i),
                     Judgement::Malformed => Answer {

@@ -28,7 +28,7 @@ returns : tie.Need-returns
 returns c =
     let r = c .before .before .before .before .before .before .before .args .r in
     record {
-      reached = rw (c .before .before .before .before .new .ensures) (born (r .number) (r .time % 4294967296) (r .time / 4294967296) (r .bytes28));
+      reached = rw (c .before .before .before .before .new .ensures) (born (record { capacity = r .number; prep = r .time % 4294967296; overall = r .time / 4294967296; guard = r .bytes28 }));
       at = omega arith;
       first = omega arith;
     }

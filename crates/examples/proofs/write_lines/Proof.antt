@@ -5,7 +5,7 @@ use mathlib.Core.Bool.{true}
 use lib.Seq.{length-take-le}
 use Rattle.table.specs.Reached.{Reached, born}
 use Rattle.lines.specs.declared.Run.{Run}
-use Rattle.lines.specs.Lines.{newRun}
+use Rattle.lines.specs.Lines.{settings, newRun}
 use Rattle.lines.proofs.Within.{progress-within}
 use borrow.Author.Needs.{needs}
 use Rattle.examples.proofs.write_lines.Statement.{statement}
@@ -15,7 +15,7 @@ new-requires : tie.Need-new-requires
 new-requires c κs = search needs
 
 fresh : (r : Run) → r ≡ newRun → Reached (r .station)
-fresh r e = subst (λ (q : Run). Reached (q .station)) (sym e) (born 100 50 2000 3000)
+fresh r e = subst (λ (q : Run). Reached (q .station)) (sym e) (born settings)
 
 answer-requires : tie.Need-answer-requires
 answer-requires c κs = fresh _ (c .before .new .ensures)
