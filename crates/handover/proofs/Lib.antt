@@ -1,3 +1,6 @@
 pub mod Deciding
 pub mod Issuing
 pub mod Keys
+pub mod Resets
+pub mod Rows
+pub mod Senders

@@ -17,24 +17,24 @@ use Rattle.handover.specs.Numbers.{blank, own}
 -- record is prepared, 3 unless it is absent)
 abbrev pub keys : List (List ℕ)
 keys =
-    (0 ∷ 0 ∷ 0 ∷ 0 ∷ 0 ∷ [])
-    ∷ (3 ∷ 3 ∷ 1 ∷ 1 ∷ 0 ∷ [])
-    ∷ (1 ∷ 2 ∷ 1 ∷ 1 ∷ 0 ∷ [])
-    ∷ (1 ∷ 2 ∷ 1 ∷ 1 ∷ 0 ∷ [])
-    ∷ (3 ∷ 3 ∷ 1 ∷ 1 ∷ 1 ∷ [])
-    ∷ (1 ∷ 2 ∷ 1 ∷ 1 ∷ 2 ∷ [])
-    ∷ (3 ∷ 3 ∷ 1 ∷ 1 ∷ 3 ∷ [])
-    ∷ (1 ∷ 3 ∷ 1 ∷ 0 ∷ 0 ∷ [])
-    ∷ (0 ∷ 0 ∷ 0 ∷ 0 ∷ 0 ∷ [])
-    ∷ (0 ∷ 0 ∷ 0 ∷ 0 ∷ 0 ∷ [])
-    ∷ (1 ∷ 2 ∷ 0 ∷ 1 ∷ 0 ∷ [])
-    ∷ (3 ∷ 4 ∷ 0 ∷ 0 ∷ 1 ∷ [])
-    ∷ (1 ∷ 2 ∷ 0 ∷ 1 ∷ 0 ∷ [])
-    ∷ (3 ∷ 4 ∷ 0 ∷ 0 ∷ 1 ∷ [])
-    ∷ (1 ∷ 3 ∷ 1 ∷ 0 ∷ 0 ∷ [])
-    ∷ (1 ∷ 3 ∷ 0 ∷ 0 ∷ 0 ∷ [])
-    ∷ (0 ∷ 0 ∷ 0 ∷ 0 ∷ 0 ∷ [])
-    ∷ (1 ∷ 2 ∷ 0 ∷ 1 ∷ 0 ∷ [])
+    (0 ∷ 0 ∷ 0 ∷ 0 ∷ 0 ∷ [])  -- 0 no kind
+    ∷ (3 ∷ 3 ∷ 1 ∷ 1 ∷ 0 ∷ [])  -- 1 handover request received
+    ∷ (1 ∷ 2 ∷ 1 ∷ 1 ∷ 0 ∷ [])  -- 2 request acknowledge received
+    ∷ (1 ∷ 2 ∷ 1 ∷ 1 ∷ 0 ∷ [])  -- 3 preparation failure received
+    ∷ (3 ∷ 3 ∷ 1 ∷ 1 ∷ 1 ∷ [])  -- 4 SN status transfer received
+    ∷ (1 ∷ 2 ∷ 1 ∷ 1 ∷ 2 ∷ [])  -- 5 UE context release received
+    ∷ (3 ∷ 3 ∷ 1 ∷ 1 ∷ 3 ∷ [])  -- 6 handover cancel received
+    ∷ (1 ∷ 3 ∷ 1 ∷ 0 ∷ 0 ∷ [])  -- 7 reset request received
+    ∷ (0 ∷ 0 ∷ 0 ∷ 0 ∷ 0 ∷ [])  -- 8 reset response received
+    ∷ (0 ∷ 0 ∷ 0 ∷ 0 ∷ 0 ∷ [])  -- 9 start a handover
+    ∷ (1 ∷ 2 ∷ 0 ∷ 1 ∷ 0 ∷ [])  -- 10 cancel
+    ∷ (3 ∷ 4 ∷ 0 ∷ 0 ∷ 1 ∷ [])  -- 11 UE arrived
+    ∷ (1 ∷ 2 ∷ 0 ∷ 1 ∷ 0 ∷ [])  -- 12 UE returned
+    ∷ (3 ∷ 4 ∷ 0 ∷ 0 ∷ 1 ∷ [])  -- 13 UE left
+    ∷ (1 ∷ 3 ∷ 1 ∷ 0 ∷ 0 ∷ [])  -- 14 reset a neighbour
+    ∷ (1 ∷ 3 ∷ 0 ∷ 0 ∷ 0 ∷ [])  -- 15 tick
+    ∷ (0 ∷ 0 ∷ 0 ∷ 0 ∷ 0 ∷ [])  -- 16 bearer
+    ∷ (1 ∷ 2 ∷ 0 ∷ 1 ∷ 0 ∷ [])  -- 17 send SN status
     ∷ []
 
 -- a kind's row; a number that is no kind has one of zeros
@@ -72,24 +72,24 @@ sooner a b = ltb (a .deadline) (b .deadline) || eqb (a .deadline) (b .deadline) 
 -- 11 prepared, 12 status stored, 13 status sent, 14 started, 15 held
 abbrev pub actions : List (List ℕ)
 actions =
-    (0 ∷ 0 ∷ 0 ∷ 0 ∷ 0 ∷ [])
-    ∷ (15 ∷ 0 ∷ 0 ∷ 0 ∷ 0 ∷ [])
-    ∷ (0 ∷ 11 ∷ 0 ∷ 0 ∷ 0 ∷ [])
-    ∷ (0 ∷ 1 ∷ 0 ∷ 0 ∷ 0 ∷ [])
-    ∷ (0 ∷ 0 ∷ 0 ∷ 12 ∷ 0 ∷ [])
-    ∷ (0 ∷ 0 ∷ 3 ∷ 0 ∷ 0 ∷ [])
-    ∷ (0 ∷ 0 ∷ 0 ∷ 7 ∷ 0 ∷ [])
-    ∷ (0 ∷ 10 ∷ 10 ∷ 10 ∷ 0 ∷ [])
-    ∷ (0 ∷ 0 ∷ 0 ∷ 0 ∷ 0 ∷ [])
-    ∷ (14 ∷ 0 ∷ 0 ∷ 0 ∷ 0 ∷ [])
-    ∷ (0 ∷ 2 ∷ 2 ∷ 0 ∷ 0 ∷ [])
-    ∷ (0 ∷ 0 ∷ 0 ∷ 8 ∷ 0 ∷ [])
-    ∷ (0 ∷ 0 ∷ 5 ∷ 0 ∷ 0 ∷ [])
-    ∷ (0 ∷ 0 ∷ 0 ∷ 0 ∷ 9 ∷ [])
-    ∷ (0 ∷ 10 ∷ 10 ∷ 10 ∷ 0 ∷ [])
-    ∷ (0 ∷ 2 ∷ 4 ∷ 6 ∷ 0 ∷ [])
-    ∷ (0 ∷ 0 ∷ 0 ∷ 0 ∷ 0 ∷ [])
-    ∷ (0 ∷ 0 ∷ 13 ∷ 0 ∷ 0 ∷ [])
+    (0 ∷ 0 ∷ 0 ∷ 0 ∷ 0 ∷ [])  -- 0 no kind
+    ∷ (15 ∷ 0 ∷ 0 ∷ 0 ∷ 0 ∷ [])  -- 1 handover request received
+    ∷ (0 ∷ 11 ∷ 0 ∷ 0 ∷ 0 ∷ [])  -- 2 request acknowledge received
+    ∷ (0 ∷ 1 ∷ 0 ∷ 0 ∷ 0 ∷ [])  -- 3 preparation failure received
+    ∷ (0 ∷ 0 ∷ 0 ∷ 12 ∷ 0 ∷ [])  -- 4 SN status transfer received
+    ∷ (0 ∷ 0 ∷ 3 ∷ 0 ∷ 0 ∷ [])  -- 5 UE context release received
+    ∷ (0 ∷ 0 ∷ 0 ∷ 7 ∷ 0 ∷ [])  -- 6 handover cancel received
+    ∷ (0 ∷ 10 ∷ 10 ∷ 10 ∷ 0 ∷ [])  -- 7 reset request received
+    ∷ (0 ∷ 0 ∷ 0 ∷ 0 ∷ 0 ∷ [])  -- 8 reset response received
+    ∷ (14 ∷ 0 ∷ 0 ∷ 0 ∷ 0 ∷ [])  -- 9 start a handover
+    ∷ (0 ∷ 2 ∷ 2 ∷ 0 ∷ 0 ∷ [])  -- 10 cancel
+    ∷ (0 ∷ 0 ∷ 0 ∷ 8 ∷ 0 ∷ [])  -- 11 UE arrived
+    ∷ (0 ∷ 0 ∷ 5 ∷ 0 ∷ 0 ∷ [])  -- 12 UE returned
+    ∷ (0 ∷ 0 ∷ 0 ∷ 0 ∷ 9 ∷ [])  -- 13 UE left
+    ∷ (0 ∷ 10 ∷ 10 ∷ 10 ∷ 0 ∷ [])  -- 14 reset a neighbour
+    ∷ (0 ∷ 2 ∷ 4 ∷ 6 ∷ 0 ∷ [])  -- 15 tick
+    ∷ (0 ∷ 0 ∷ 0 ∷ 0 ∷ 0 ∷ [])  -- 16 bearer
+    ∷ (0 ∷ 0 ∷ 13 ∷ 0 ∷ 0 ∷ [])  -- 17 send SN status
     ∷ []
 
 abbrev pub actionOf : ℕ → ℕ → ℕ

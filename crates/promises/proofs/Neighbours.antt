@@ -25,7 +25,8 @@ use Rattle.table.proofs.Fits.{decided-keeps}
 use Rattle.handover.proofs.Keys.{isOf}
 use Rattle.table.proofs.Resetting.{reset-at}
 use Rattle.promises.proofs.Rows.{step-reset}
-use Rattle.promises.proofs.Strangers.{concernsNeighbour, about-of, answers-concern, step-about}
+use Rattle.handover.proofs.Senders.{concernsNeighbour, about-of}
+use Rattle.promises.proofs.Strangers.{answers-concern, step-about}
 
 -- ---- what it changes
 

@@ -31,7 +31,8 @@ use Rattle.promises.proofs.Neighbours.{decide-deadline}
 use Rattle.table.proofs.Placing.{found-place}
 use Rattle.table.proofs.Resetting.{reset-at}
 use Rattle.promises.proofs.Rows.{step-reset}
-use Rattle.promises.proofs.Strangers.{about-of, answers-concern, step-about}
+use Rattle.handover.proofs.Senders.{about-of}
+use Rattle.promises.proofs.Strangers.{answers-concern, step-about}
 use Rattle.table.proofs.Tally.{none-at}
 
 -- every record of a neighbour that one station has stands in another

@@ -20,7 +20,7 @@ use Rattle.handover.proofs.Deciding.{decide-as}
 use Rattle.table.proofs.Parts.{Part, as-refusal, as-response, as-failure, as-grant, as-start, as-reset, as-idle, as-tick, as-event, part}
 use Rattle.table.proofs.Placing.{found-place}
 use Rattle.table.proofs.Resetting.{same-station}
-use Rattle.promises.proofs.Rows.{due-ends}
+use Rattle.handover.proofs.Rows.{due-ends}
 use Rattle.promises.proofs.Ticks.{soonest-due}
 
 -- what holds of an answer, by its reply

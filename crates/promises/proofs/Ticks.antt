@@ -26,7 +26,8 @@ use Rattle.table.specs.Step.{refused, stepOf}
 use Rattle.table.specs.Table.{dueFrom, soonest, at, put}
 use Rattle.table.proofs.Finding.{at-nothing, by-found}
 use Rattle.handover.proofs.Keys.{keyed-means}
-use Rattle.promises.proofs.Rows.{early-step, tick-step, due-ends}
+use Rattle.promises.proofs.Rows.{early-step, tick-step}
+use Rattle.handover.proofs.Rows.{due-ends}
 use Rattle.table.proofs.Tally.{total-none-of, once-le}
 
 -- ---- the order: by deadline, then by own ID

@@ -15,7 +15,7 @@ use Rattle.handover.specs.declared.Decision.{Decision}
 use Rattle.handover.specs.declared.Entry.{Entry}
 use Rattle.table.specs.declared.Found.the-variants.{At}
 use Rattle.table.specs.declared.Station.{Station}
-use Rattle.handover.specs.Events.{key, keyed, about, resets, actionOf, message, lastWord, decide, prepared, stored, serving}
+use Rattle.handover.specs.Events.{about, resets, actionOf, message, lastWord, decide, prepared, stored, serving}
 use Rattle.fields.specs.Fields.{allOfNeighbour, sortOf, wellFormed}
 use Rattle.handover.specs.Numbers.{isFree, isOutgoing, blank}
 use Rattle.table.specs.Sound.{Sound}
@@ -26,7 +26,7 @@ use Rattle.table.proofs.Changes.{sound-at}
 use Rattle.handover.proofs.Deciding.{every-action, leaves, decide-as}
 use Rattle.table.proofs.Finding.{found-here, set-each}
 use Rattle.fields.proofs.Forms.{time-within}
-use Rattle.handover.proofs.Keys.{Keyed, keyed-means}
+use Rattle.handover.proofs.Keys.{same-neighbour, same-old, release-new, arrival-new}
 use Rattle.table.proofs.Parts.{Part, as-refusal, as-response, as-failure, as-grant, as-start, as-reset, as-idle, as-tick, as-event, part}
 use Rattle.table.proofs.Placing.{found-place, due-place}
 use Rattle.table.proofs.Resetting.{reset-at}
@@ -78,10 +78,6 @@ pub data Turn (s : Station) (e : Record) : Answer → Type 0 where
 
 -- ---- a decision
 
--- The keys of an event about a record, by its kind.
-keyed-by : (k : ℕ) (e : Record) (r : Entry) → e .kind ≡ k → about e r ≡ true → Keyed (key k) e r
-keyed-by k e r kind t = keyed-means (key k) e r (subst (λ (n : ℕ). keyed (key n) e r ≡ true) kind t)
-
 -- By one test of the table of actions: an action that leaves no record is not an acknowledge's, and ends an outgoing record in one of
 -- the ways named.
 abbrev final : ℕ → ℕ → ℕ → Bool
@@ -91,19 +87,6 @@ finals : (k st : ℕ) → final k st (actionOf k st) ≡ true
 finals k st = every-action final refl k st (λ j. refl)
 
 module _ (e : Record) (r : Entry) (mine : about e r ≡ true) where
-  -- What is compared is the same.
-  same-neighbour : (k : ℕ) → e .kind ≡ k → eqb (key k 2) 0 ≡ false → r .neighbour ≡ e .neighbour
-  same-neighbour k kind compared = eqb-true (r .neighbour) (e .neighbour) (rw compared at (keyed-by k e r kind mine .neighbour))
-
-  same-old : (k : ℕ) → e .kind ≡ k → eqb (key k 3) 0 ≡ false → r .old .0 ≡ e .old .0
-  same-old k kind compared = eqb-true (r .old .0) (e .old .0) (rw compared at (keyed-by k e r kind mine .old))
-
-  -- A release has the New ID of a prepared record that it is about, an arrival that of any.
-  same-new : (k : ℕ) → e .kind ≡ k → eqb (key k 4) 0 ≡ false → eqb (key k 4) 3 ≡ false → (eqb (key k 4) 2 && eqb (r .state) 1) ≡ false → r .new .0 ≡ e .new .0
-  same-new k kind some any early =
-      by-cases (eqb (r .new .0) (e .new .0)) (λ t. eqb-true (r .new .0) (e .new .0) t)
-      (λ t. absurd (false≢true (rw (some, t, early, any) at (keyed-by k e r kind mine .new))))
-
   -- So a record ends as the table says.
   ended : (z : ℕ) → final (e .kind) (r .state) z ≡ true → leaves z ≡ false → Change e z r blank
   ended z right none =
@@ -117,14 +100,14 @@ module _ (e : Record) (r : Entry) (mine : about e r ≡ true) where
       (λ t.
       let at = both-true (eqb z 1) (eqb (e .kind) 3) t in
       let kind = eqb-true (e .kind) 3 (at .1) in
-      by-failure (eqb-true z 1 (at .0)) kind (same-neighbour 3 kind refl) (same-old 3 kind refl))
+      by-failure (eqb-true z 1 (at .0)) kind (same-neighbour e r mine 3 kind refl) (same-old e r mine 3 kind refl))
       (λ t. by-cases release
       (λ u.
       let at = both-true (eqb z 3 && eqb (e .kind) 5) (eqb (r .state) 2) u in
       let kind = eqb-true (e .kind) 5 (both-true (eqb z 3) (eqb (e .kind) 5) (at .0) .1) in
       let two = eqb-true (r .state) 2 (at .1) in
-      by-release (eqb-true z 3 (both-true (eqb z 3) (eqb (e .kind) 5) (at .0) .0)) kind (same-neighbour 5 kind refl) (same-old 5 kind refl) two
-      (same-new 5 kind refl refl (rw two)))
+      by-release (eqb-true z 3 (both-true (eqb z 3) (eqb (e .kind) 5) (at .0) .0)) kind (same-neighbour e r mine 5 kind refl) (same-old e r mine 5 kind refl) two
+      (release-new e r kind mine two))
       (λ u. by-other (rw (o, t, u) at (both .1)))))
       (λ o. incoming o))
 
@@ -173,7 +156,7 @@ module _ (s : Station) (sound : Sound s) (e : Record) where
       (λ two one _. put-turned i place _ (prepares deadline formed two one (same-neighbour e r mine 2 two refl) (same-old e r mine 2 two refl)) (other refl))
       (λ _ _. put-turned i place _ stores (other refl))
       (put-turned i place _ stays (other refl))
-      (λ eleven three. put-turned i place _ (serves three) (releases i place eleven three (same-new e r mine 11 eleven refl refl refl) refl refl))
+      (λ eleven three. put-turned i place _ (serves three) (releases i place eleven three (arrival-new e r eleven mine) refl refl))
       (λ none. put-turned i place _ (ended e r mine (actionOf (e .kind) (r .state)) (finals (e .kind) (r .state)) none) (other (last-other e r)))
 
 module _ (s : Station) (sound : Sound s) (e : Record) (bearers : List ℕ) (room : ℕ) where

@@ -24,6 +24,7 @@ use Rattle.table.specs.Sound.{Fit, Sound}
 use Rattle.table.specs.Step.{carried, stepOf, admission, taken}
 use Rattle.table.specs.Table.{find, soonest, at, backOf}
 use Rattle.promises.specs.Views.{recordAt}
+use Rattle.handover.proofs.Resets.{reset-ends}
 use Rattle.handover.proofs.Deciding.{every-action, leaves, decide-as}
 use Rattle.table.proofs.Parts.{Part, as-refusal, as-response, as-failure, as-grant, as-start, as-reset, as-idle, as-tick, as-event, part}
 use Rattle.table.proofs.Placing.{found-place, due-place}
@@ -98,33 +99,6 @@ no-request k sort is other = ne-eqb k 1 (λ one. other (rw one at is))
 -- A reset is none of the kinds that leave a record.
 keeps-none : (k : ℕ) → sortOf k ≡ allOfNeighbour → keeps k ≡ false
 keeps-none k reset = not-true (keeps k) (every-of-sort allOfNeighbour (λ j. not (keeps j)) refl refl k reset)
-
--- By one test of the tables of keys and actions: a reset looks at outgoing and held records, compares the neighbour alone, and ends
--- each of them.
-abbrev resetRow : ℕ → Bool
-resetRow k =
-    eqb (key k 0) 1 && eqb (key k 1) 3 && not (eqb (key k 2) 0) && eqb (key k 3) 0 && eqb (key k 4) 0
-    && below 4 (λ st. not (leb 1 st) || eqb (actionOf k st) 10)
-
--- So it ends the outgoing and held records of its neighbour.
-reset-ends : (e : Record) (r : Entry) → sortOf (e .kind) ≡ allOfNeighbour → resets e r ≡ (leb 1 (r .state) && leb (r .state) 3 && eqb (r .neighbour) (e .neighbour))
-reset-ends e r reset =
-    let st = r .state in
-    let k = e .kind in
-    let ends = below 4 (λ j. not (leb 1 j) || eqb (actionOf k j) 10) in
-    let compared = eqb (key k 0) 1 && eqb (key k 1) 3 && not (eqb (key k 2) 0) && eqb (key k 3) 0 in
-    let six = both-true (compared && eqb (key k 4) 0) ends (every-of-sort allOfNeighbour resetRow refl refl k reset) in
-    let five = both-true compared (eqb (key k 4) 0) (six .0) in
-    let four = both-true (eqb (key k 0) 1 && eqb (key k 1) 3 && not (eqb (key k 2) 0)) (eqb (key k 3) 0) (five .0) in
-    let three = both-true (eqb (key k 0) 1 && eqb (key k 1) 3) (not (eqb (key k 2) 0)) (four .0) in
-    let two = both-true (eqb (key k 0) 1) (eqb (key k 1) 3) (three .0) in
-    rw (eqb-true (key k 0) 1 (two .0), eqb-true (key k 1) 3 (two .1), not-true (eqb (key k 2) 0) (three .1), eqb-true (key k 3) 0 (four .1), eqb-true (key k 4) 0 (five .1))
-    (by-cases (leb 1 st && leb st 3)
-    (λ t.
-    let timed = both-true (leb 1 st) (leb st 3) t in
-    let cell : eqb (actionOf k st) 10 ≡ true = rw (timed .0) at (below-at 4 (λ j. not (leb 1 j) || eqb (actionOf k j) 10) st (six .1) (omega (arith, leb-true st 3 (timed .1)))) in
-    rw (t, cell, and-true, and-true, and-true))
-    (λ t. rw t))
 
 -- Of these only the held ones have units.
 reset-held : (e : Record) (r : Entry) → sortOf (e .kind) ≡ allOfNeighbour → Fit r → backOf e r ≡ heldUnits e r

@@ -315,12 +315,12 @@ impl Station {
                 station: self,
             };
         }
-        let id = self.issue();
-        self.last = id;
+        let old = self.issue();
+        self.last = old;
         self.entries[i] = Entry {
             state: 1,
             neighbour: e.neighbour,
-            old: OldId(id),
+            old: OldId(old),
             new: NewId(0),
             requested: e.first,
             admitted: 0,
@@ -333,7 +333,7 @@ impl Station {
                 reply: 0,
                 ending: 0,
                 count: 0,
-                message: message(1, e.neighbour, OldId(id), NewId(0), e.first, 0, 0),
+                message: message(1, e.neighbour, OldId(old), NewId(0), e.first, 0, 0),
             },
             station: self,
         }
@@ -400,15 +400,15 @@ impl Station {
                 station: self,
             };
         }
-        let id = self.issue();
+        let new = self.issue();
         let old = e.old;
-        self.last = id;
+        self.last = new;
         self.used = self.used + a.units;
         self.entries[i] = Entry {
             state: 3,
             neighbour: e.neighbour,
             old,
-            new: NewId(id),
+            new: NewId(new),
             requested: 0,
             admitted: a.admitted,
             status: 0,
@@ -420,7 +420,7 @@ impl Station {
                 reply: 0,
                 ending: 0,
                 count: a.count,
-                message: message(2, e.neighbour, old, NewId(id), a.admitted, a.refused, 0),
+                message: message(2, e.neighbour, old, NewId(new), a.admitted, a.refused, 0),
             },
             station: self,
         }
