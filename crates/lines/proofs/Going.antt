@@ -2,22 +2,19 @@
 use Prim.Native.Nat.{ℕ, zero, suc, _+_, _*_, _-_, _≤_, _<_}
 use mathlib.Core.Path.{_≡_, refl, sym, subst}
 use mathlib.Core.Bool.{Bool, true, false, cond, false≢true}
-use mathlib.Core.List.{List, []}
+use mathlib.Core.List.{List}
 use borrow.Author.Tests.{leb-false}
 use native.Mathlib.Omega.{arith}
 use lib.Dec.{leb}
 use lib.ListN.{length, take, drop}
 use Rattle.laws.proofs.Tests.{by-cases}
-use Rattle.records.specs.Record.{little, recordOf, zeros, roomAt, AreBytes, InRange}
+use Rattle.records.specs.Record.{recordOf, roomAt}
 use Rattle.records.specs.Stream.{pieceAt, nextOf, takesBearers, bearersIn}
 use Rattle.records.specs.declared.Record.{Record}
 use Rattle.records.specs.declared.stream.Piece.{Piece}
 use Rattle.records.specs.declared.stream.Piece.the-variants.{Nothing, Short, Single, Request}
 use Rattle.records.proofs.Cutting as cutting
-use Rattle.records.proofs.RoundTrip.{in-range, bytes-take}
-use Rattle.table.specs.declared.Station.{Station}
-use Rattle.table.specs.Reached.{Reached, stepped}
-use Rattle.lines.specs.Lines.{sizeOf, isWhole, answerTo, Work, goesOn, onward, workOn}
+use Rattle.lines.specs.Lines.{sizeOf, isWhole, Work, goesOn, onward, workOn}
 
 -- the record at the front, and where the next event starts if that is a request
 abbrev first : List ℕ → Record
@@ -64,19 +61,6 @@ Bearers (Request r next) = 32 ≤ next
 
 pub bearers-part : (rest : List ℕ) {r : Record} {next : ℕ} → Request r next ≡ pieceAt rest 0 → (32 ≤ next) × (next ≤ length rest)
 bearers-part rest here = subst (λ (p : Piece). Bearers p × (sizeOf p ≤ length rest)) (sym here) (at-front Bearers rest tt tt tt (omega arith), within rest)
-
--- The station that answered is one that a fresh one reaches: what was read of bytes is in range.
-zeros-range : InRange zeros
-unfolding recordOf little
-zeros-range = in-range [] (λ i. omega arith)
-
-pub still-reached : (room : ℕ) (s : Station) (rest : List ℕ) → Reached s → AreBytes rest → Reached (answerTo room s rest (pieceAt rest 0) .station)
-still-reached room s rest h k =
-    let range = in-range (take 32 rest) (bytes-take 32 rest k) in
-    let none = stepped h zeros zeros-range [] 0 in
-    at-front (λ p. Reached (answerTo room s rest p .station)) rest none none
-    (stepped h (first rest) range [] 0)
-    (stepped h (first rest) range (take (next rest - 32) (drop 32 rest)) room)
 
 -- One event more, or none.
 pub goes : (most : ℕ) (ended : Bool) (room : ℕ) (bytes : List ℕ) (w : Work) → goesOn ended room bytes w ≡ true

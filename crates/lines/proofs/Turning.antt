@@ -1,6 +1,6 @@
 -- What holds of a run at each event of a block: what it still does is, with what it did, what it does with the block.
 use Prim.Native.Nat.{ℕ, suc, _+_, _-_, _%_, _^_, _≤_, _<_}
-use mathlib.Core.Path.{_≡_, sym, ap, _∙_, subst}
+use mathlib.Core.Path.{_≡_, sym, ap, _∙_}
 use mathlib.Core.Bool.{Bool, true, false, _&&_}
 use mathlib.Core.List.{List, _++_}
 use borrow.Author.Tests.{leb-true}
@@ -10,17 +10,15 @@ use lib.Dec.{leb}
 use lib.ListN.{length, take, drop, length-drop}
 use lib.Seq.{sets, length-sets, take-all}
 use Rattle.laws.proofs.Tests.{both-true}
-use Rattle.records.specs.Record.{AreBytes}
 use Rattle.records.specs.Stream.{pieceAt}
 use Rattle.records.specs.declared.stream.Piece.{Piece}
-use Rattle.records.proofs.RoundTrip.{bytes-drop}
 use Rattle.table.specs.declared.Answer.{Answer}
 use Rattle.table.specs.declared.Station.{Station}
 use Rattle.table.specs.Reached.{Reached}
 use Rattle.lines.specs.declared.Run.{Run}
 use Rattle.lines.specs.Lines.{lineOf, sizeOf, isWhole, answerTo, Work, goesOn, onward, workOn, workOf, progress}
 use Rattle.lines.proofs.Digits.{line-most}
-use Rattle.lines.proofs.Going.{within, some-byte, some-left, still-reached, goes, stops}
+use Rattle.lines.proofs.Going.{within, some-byte, some-left, goes, stops}
 use Rattle.lines.proofs.Writing.{joined}
 
 -- the part of a block from a place on
@@ -60,10 +58,12 @@ module _ {bytes : List ℕ} {ended : Bool} {buffer : List ℕ} {run : Run} {out 
     pub returned : (whole && leb 189 (length out - written)) ≡ false
         → (record { run = record { station = station; place = place }; taken = taken; written = written } ≡ progress (workOf ended (length buffer) bytes run))
         × (out ≡ sets buffer 0 (workOf ended (length buffer) bytes run .text))
+        × Reached station
     returned t =
         let done = sym (stops (head .most) ended (length buffer) bytes (working station place taken (head .text)) (sym tested ∙ t)) ∙ head .goes-on in (
           ap (λ (k : ℕ). record { run = record { station = station; place = place }; taken = taken; written = k }) (head .size) ∙ ap progress done,
           head .wrote ∙ ap (λ (w : Work). sets buffer 0 (w .text)) done,
+          head .reached,
         )
 
     module _ (t : (whole && leb 189 (length out - written)) ≡ true) where
@@ -79,13 +79,13 @@ module _ {bytes : List ℕ} {ended : Bool} {buffer : List ℕ} {run : Run} {out 
           rw (head .front) (some-byte rest (some-left rest ended (length bytes - taken) (rw (head .front) at (sym found ∙ both .0))))
 
       -- One event: the next head, from what the turn's calls gave.
-      pub turned : AreBytes bytes → (left : List ℕ) (a : Answer) (room place' size end : ℕ) (piece' : Piece) → room ≡ 256
-          → a ≡ answerTo room station (take (length bytes - taken) (drop taken bytes)) piece
+      pub turned : (left : List ℕ) (a : Answer) (room place' size end : ℕ) (piece' : Piece) → room ≡ 256
+          → a ≡ answerTo room station (take (length bytes - taken) (drop taken bytes)) piece → Reached (a .station)
           → end ≡ written + length (lineOf place (a .outcome)) → left ≡ sets out written (lineOf place (a .outcome))
           → place' ≡ (place + 1) % 2 ^ 64 → size ≡ sizeOf piece
           → piece' ≡ pieceAt (take (length bytes - (taken + size)) (drop (taken + size) bytes)) 0
           → Head bytes ended buffer run left (a .station) place' (taken + size) end piece'
-      turned known left a room place' size end piece' lent answer ends writes counts sizes next =
+      turned left a room place' size end piece' lent answer reached ends writes counts sizes next =
           let rest = drop taken bytes in
           let line = lineOf place (a .outcome) in
           let most = head .most - 1 in
@@ -99,7 +99,7 @@ module _ {bytes : List ℕ} {ended : Bool} {buffer : List ℕ} {run : Run} {out 
             text = head .text ++ line;
             most = most;
             front = next ∙ ap (λ (l : List ℕ). pieceAt l 0) (part bytes (taken + size));
-            reached = subst (λ (b : Answer). Reached (b .station)) (sym given) (still-reached 256 station rest (head .reached) (bytes-drop taken bytes known));
+            reached = reached;
             within-block = omega (arith, size-left);
             enough = omega (arith, some);
             size = written .0 ∙ zero-add _;

@@ -1,4 +1,4 @@
--- A run stays within the block and the buffer, and its station is one that a fresh one reaches.
+-- A run stays within the block and the buffer.
 use Prim.Native.Nat.{ℕ, zero, suc, _-_, _≤_}
 use mathlib.Core.Path.{_≡_, sym, subst}
 use mathlib.Core.Bool.{Bool, true}
@@ -8,19 +8,15 @@ use native.Mathlib.Omega.{arith}
 use lib.Dec.{leb}
 use lib.ListN.{length, take, drop, length-append, length-take, length-drop}
 use Rattle.laws.proofs.Tests.{by-cases, both-true}
-use Rattle.records.specs.Record.{AreBytes}
 use Rattle.records.specs.Stream.{pieceAt}
-use Rattle.records.proofs.RoundTrip.{bytes-drop}
-use Rattle.table.specs.Reached.{Reached}
 use Rattle.lines.specs.declared.Progress.{Progress}
 use Rattle.lines.specs.declared.Run.{Run}
 use Rattle.lines.specs.Lines.{isWhole, answerTo, lineOf, Work, beginning, goesOn, onward, workOn, workOf, progress, leftIn}
 use Rattle.lines.proofs.Digits.{line-most}
-use Rattle.lines.proofs.Going.{within, still-reached, goes, stops}
+use Rattle.lines.proofs.Going.{within, goes, stops}
 
-module _ (ended : Bool) (room : ℕ) (bytes : List ℕ) (known : AreBytes bytes) where
+module _ (ended : Bool) (room : ℕ) (bytes : List ℕ) where
   pub record Within (w : Work) : Type 0 where
-    pub reached : Reached (w .run .station)
     pub taken : w .taken ≤ length bytes
     pub written : length (w .text) ≤ room
 
@@ -31,7 +27,6 @@ module _ (ended : Bool) (room : ℕ) (bytes : List ℕ) (known : AreBytes bytes)
       let fits : leb 189 (room - length (w .text)) ≡ true = both-true (isWhole ended (length bytes - w .taken) (pieceAt rest 0)) _ t .1 in
       let outcome = answerTo 256 (w .run .station) rest (pieceAt rest 0) .outcome in
       record {
-        reached = still-reached 256 (w .run .station) rest (h .reached) (bytes-drop (w .taken) bytes known);
         taken = omega (arith, within rest, length-drop (w .taken) bytes);
         written = omega (arith, length-append (w .text) (lineOf place outcome), line-most place outcome, leb-true 189 (room - length (w .text)) fits);
       }
@@ -44,15 +39,15 @@ module _ (ended : Bool) (room : ℕ) (bytes : List ℕ) (known : AreBytes bytes)
       (λ t. subst Within (sym (goes most ended room bytes w t)) (all most (onward bytes w) (one w t h)))
       (λ t. subst Within (sym (stops (suc most) ended room bytes w t)) h)
 
-  pub work-within : (run : Run) → Reached (run .station) → Within (workOf ended room bytes run)
-  work-within run h = all (length bytes) (beginning run) (record { reached = h; taken = omega arith; written = omega arith })
+  pub work-within : (run : Run) → Within (workOf ended room bytes run)
+  work-within run = all (length bytes) (beginning run) (record { taken = omega arith; written = omega arith })
 
 -- The same of what a run answers.
-pub progress-within : (ended : Bool) (out bytes : List ℕ) → AreBytes bytes → (run : Run) → Reached (run .station) → (p : Progress)
-    → p ≡ progress (workOf ended (length out) bytes run) → Reached (p .run .station) × (p .taken ≤ length bytes) × (p .written ≤ length out)
-progress-within ended out bytes known run h p e =
-    let w = work-within ended (length out) bytes known run h in
-    subst (λ (q : Progress). Reached (q .run .station) × (q .taken ≤ length bytes) × (q .written ≤ length out)) (sym e) (w .reached, w .taken, w .written)
+pub progress-within : (ended : Bool) (out bytes : List ℕ) (run : Run) (p : Progress)
+    → p ≡ progress (workOf ended (length out) bytes run) → (p .taken ≤ length bytes) × (p .written ≤ length out)
+progress-within ended out bytes run p e =
+    let w = work-within ended (length out) bytes run in
+    subst (λ (q : Progress). (q .taken ≤ length bytes) × (q .written ≤ length out)) (sym e) (w .taken, w .written)
 
 -- What is left of a block is no longer than it.
 pub left-within : (taken held : ℕ) (block : List ℕ) → length (leftIn taken held block) ≤ length block

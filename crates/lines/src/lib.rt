@@ -89,7 +89,7 @@ pub fn size_of(piece: Piece) -> usize
 // A station's answer to what stands at the front of some bytes; a request's verdicts go to the buffer.
 pub fn answered(station: Station, piece: Piece, bytes: &[u8], verdicts: &mut [u8]) -> Answer
     requires { ⌜ Reached station ⌝ }
-    ensures { λ a. ⌜ (a ≡ answerTo (length (now (verdicts .entry))) station (now (bytes .entry)) piece) × (now (verdicts .exit) ≡ verdictsTo station (now (bytes .entry)) piece (now (verdicts .entry))) ⌝ }
+    ensures { λ a. ⌜ (a ≡ answerTo (length (now (verdicts .entry))) station (now (bytes .entry)) piece) × (now (verdicts .exit) ≡ verdictsTo station (now (bytes .entry)) piece (now (verdicts .entry))) × Reached (a .station) ⌝ }
 {
     match piece {
         Piece::Nothing => station.step(Record::zeros()),
@@ -133,7 +133,7 @@ fn greatest(a: usize, b: usize) -> usize
 impl Run {
     // A run with the settings of the station program.
     pub fn new() -> Run
-        ensures { λ r. ⌜ r ≡ newRun ⌝ }
+        ensures { λ r. ⌜ (r ≡ newRun) × Reached (r .station) ⌝ }
     {
         let settings = Settings {
             capacity: 100,
@@ -150,7 +150,7 @@ impl Run {
     // whole and the longest line has room. What comes after the block can change none of them; `ended` says that nothing does.
     pub fn answer(self, bytes: &[u8], ended: bool, out: &mut [u8]) -> Progress
         requires { ⌜ Reached (self .station) ⌝ }
-        ensures { λ r. ⌜ (r ≡ progress (workOf ended (length (now (out .entry))) (now (bytes .entry)) self)) × (now (out .exit) ≡ sets (now (out .entry)) 0 (workOf ended (length (now (out .entry))) (now (bytes .entry)) self .text)) ⌝ }
+        ensures { λ r. ⌜ (r ≡ progress (workOf ended (length (now (out .entry))) (now (bytes .entry)) self)) × (now (out .exit) ≡ sets (now (out .entry)) 0 (workOf ended (length (now (out .entry))) (now (bytes .entry)) self .text)) × Reached (r .run .station) ⌝ }
     {
         let mut station = self.station;
         let mut place = self.place;

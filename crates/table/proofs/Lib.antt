@@ -4,6 +4,7 @@ pub mod Finding
 pub mod Fits
 pub mod Parts
 pub mod Placing
+pub mod Reaching
 pub mod Requests
 pub mod Resetting
 pub mod Soundness

@@ -137,7 +137,7 @@ impl Station {
     // A fresh station with these settings: capacity 0 to 1,000,000,000 units, timers 1 to 600,000 ms. If one is out of range
     // the reply is 1, and the station has capacity 0 and timers of 1 ms.
     pub fn new(settings: Settings) -> Birth
-        ensures { λ r. ⌜ r ≡ birthOf settings ⌝ }
+        ensures { λ r. ⌜ (r ≡ birthOf settings) × Reached (r .station) ⌝ }
     {
         if is_settled(settings) {
             return Birth {
@@ -490,7 +490,7 @@ impl Station {
     // One event: the next station, the reply, the ending and the message to send. A request handed in here lacks its bearers.
     pub fn step(mut self, e: Record) -> Answer
         requires { ⌜ Reached self ⌝ }
-        ensures { λ a. ⌜ a ≡ stepOf self e [] 0 ⌝ }
+        ensures { λ a. ⌜ (a ≡ stepOf self e [] 0) × Reached (a .station) ⌝ }
     {
         let sort = sort_of(e);
         if sort == ONE_RECORD {
@@ -516,7 +516,7 @@ impl Station {
     // lent buffer, one byte each, the rest untouched.
     pub fn request(mut self, e: Record, bearers: &[u8], verdicts: &mut [u8]) -> Answer
         requires { ⌜ Reached self ⌝ }
-        ensures { λ a. ⌜ (a ≡ stepOf self e (now (bearers .entry)) (length (now (verdicts .entry)))) × (now (verdicts .exit) ≡ verdictsOf self e (now (bearers .entry)) (now (verdicts .entry))) ⌝ }
+        ensures { λ a. ⌜ (a ≡ stepOf self e (now (bearers .entry)) (length (now (verdicts .entry)))) × (now (verdicts .exit) ≡ verdictsOf self e (now (bearers .entry)) (now (verdicts .entry))) × Reached (a .station) ⌝ }
     {
         if sort_of(e) == REQUEST {
             return self.requested(e, bearers, verdicts);

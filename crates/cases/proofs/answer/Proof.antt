@@ -1,13 +1,11 @@
--- The event lies within the script, and the station that answers it is one that a fresh one reaches.
+-- The event lies within the script.
 use Prim.Native.Nat.{ℕ, _+_, _-_, _≤_}
 use mathlib.Core.Path.{ap, _∙_}
 use native.Mathlib.Omega.{arith}
 use lib.ListN.{length, take, drop, length-take, length-drop}
 use mathlib.Core.List.{List}
-use Rattle.records.proofs.RoundTrip.{bytes-take, bytes-drop}
-use Rattle.table.specs.Reached.{Reached}
 use Rattle.lines.specs.Lines.{sizeOf}
-use Rattle.lines.proofs.Going.{within, still-reached}
+use Rattle.lines.proofs.Going.{within}
 use borrow.Author.Needs.{needs}
 use Rattle.cases.proofs.answer.Statement.{statement}
 use Rattle.cases.proofs.answer.Tie as tie
@@ -74,17 +72,6 @@ ahead c =
     let size = c .size-of .ensures ∙ ap sizeOf (answered .before .before .before .cut .ensures) in
     omega (arith, start answered .pre .at, within (rest answered), length-take (length script - at) (drop at script), length-drop at script)
 
--- the station that answers is reached
-reached : (c : tie.After-answered) → Reached (c .answered .result .station)
-reached c =
-    let script = start c .args .script .now in
-    let at = start c .args .c .at in
-    let station = start c .args .c .station in
-    let room = length (take (c .before .before .before .before .before .count .result) (start c .args .verdicts .now)) in
-    let known = bytes-take (length script - at) (drop at script) (bytes-drop at script (λ i. c .before .before .before .before .before .before .before .before .before .before .shared-slice-known .given i .fits)) in
-    rw (c .answered .ensures .0, c .before .before .before .cut .ensures)
-    (still-reached room station (rest c) (start c .pre .reached) known)
-
 add-t18 : tie.Need-add-t18
 add-t18 c = omega (arith, ahead (c .before .before), start (c .before .before .before .before .before .before .before) .good)
 
@@ -100,7 +87,7 @@ slice-aggregate-onward c = search needs
 onward-requires : tie.Need-onward-requires
 onward-requires c κs =
     let answered = c .before .before .before .before .before .before .before .before .before in
-    record { reached = reached answered; at = ahead (c .before .before .before .before); first = start answered .pre .first }
+    record { reached = answered .answered .ensures .2; at = ahead (c .before .before .before .before); first = start answered .pre .first }
 
 same-length : tie.Need-same-length
 same-length c = search needs

@@ -1,7 +1,5 @@
 -- A station that was born is one that a fresh one reaches.
-use Prim.Native.Nat.{_/_, _%_}
 use native.Mathlib.Omega.{arith}
-use Rattle.table.specs.Reached.{born}
 use borrow.Author.Needs.{needs}
 use Rattle.cases.proofs.born.Statement.{statement}
 use Rattle.cases.proofs.born.Tie as tie
@@ -25,13 +23,7 @@ field-requires : tie.Need-field-requires
 field-requires c κs = search needs
 
 returns : tie.Need-returns
-returns c =
-    let r = c .before .before .before .before .before .before .before .args .r in
-    record {
-      reached = rw (c .before .before .before .before .new .ensures) (born (record { capacity = r .number; prep = r .time % 4294967296; overall = r .time / 4294967296; guard = r .bytes28 }));
-      at = omega arith;
-      first = omega arith;
-    }
+returns c = record { reached = c .before .before .before .before .new .ensures .1; at = omega arith; first = omega arith }
 
 pub born-spec : {M : Type 1} → statement M
 born-spec =

@@ -5,8 +5,6 @@ use native.Mathlib.Omega.{arith}
 use lib.Dec.{ltb}
 use lib.ListN.{length}
 use Rattle.laws.proofs.Tests.{both-true}
-use Rattle.table.specs.Reached.{born}
-use Rattle.table.specs.Step.{least}
 use Rattle.cases.specs.Scripts.{Sound}
 use Rattle.cases.proofs.play.Statement.{statement}
 use Rattle.cases.proofs.play.Tie as tie
@@ -21,7 +19,7 @@ new-requires : tie.Need-new-requires Inv-loop μ-loop
 new-requires c κs = tt
 
 loop-holds : tie.Need-loop-holds Inv-loop μ-loop
-loop-holds c = record { reached = rw (c .before .new .ensures) (born least); at = omega arith; first = omega arith }
+loop-holds c = record { reached = c .before .new .ensures .1; at = omega arith; first = omega arith }
 
 turn-requires : tie.Need-turn-requires Inv-loop μ-loop
 turn-requires c κs = c .before .before .loop .inv

@@ -1,11 +1,8 @@
 -- The lines stay within the buffer.
 use Prim.Native.Nat.{ℕ, _≤_}
-use mathlib.Core.Path.{_≡_, sym, subst}
+use mathlib.Core.Path.{sym, subst}
 use mathlib.Core.Bool.{true}
 use lib.Seq.{length-take-le}
-use Rattle.table.specs.Reached.{Reached, born}
-use Rattle.lines.specs.declared.Run.{Run}
-use Rattle.lines.specs.Lines.{settings, newRun}
 use Rattle.lines.proofs.Within.{progress-within}
 use borrow.Author.Needs.{needs}
 use Rattle.examples.proofs.write_lines.Statement.{statement}
@@ -14,11 +11,8 @@ use Rattle.examples.proofs.write_lines.Tie as tie
 new-requires : tie.Need-new-requires
 new-requires c κs = search needs
 
-fresh : (r : Run) → r ≡ newRun → Reached (r .station)
-fresh r e = subst (λ (q : Run). Reached (q .station)) (sym e) (born settings)
-
 answer-requires : tie.Need-answer-requires
-answer-requires c κs = fresh _ (c .before .new .ensures)
+answer-requires c κs = search needs
 
 same-length : tie.Need-same-length
 same-length c = search needs
@@ -27,8 +21,8 @@ returns : tie.Need-returns
 returns c =
     let start = c .before .before .before .before .before .before .before .args in
     let answer = c .before .before .answer in
-    let within = progress-within true (start .buffer .now) (start .events .now) (λ i. c .before .before .before .before .before .before .shared-slice-known .given i .fits) (c .before .before .before .before .new .result) (fresh (c .before .before .before .before .new .result) (c .before .before .before .before .new .ensures)) (answer .result) (answer .ensures .0) in
-    let fits = subst (λ (n : ℕ). answer .result .written ≤ n) (sym (answer .kept .1 .1 .1 .0)) (within .2) in
+    let within = progress-within true (start .buffer .now) (start .events .now) (c .before .before .before .before .new .result) (answer .result) (answer .ensures .0) in
+    let fits = subst (λ (n : ℕ). answer .result .written ≤ n) (sym (answer .kept .1 .1 .1 .0)) (within .1) in
     (fits, sym (length-take-le _ _ fits))
 
 pub write-lines-spec : {M : Type 1} → statement M

@@ -82,13 +82,13 @@ between bytes next from end to f e t =
     rw (here, there) (take-nil (to - from) ∙ sym (take-nil (next - 32))))
 
 returns : tie.Need-returns
-returns c = rw (c .before .before .enum-told .given .1) (rw (c .before .zeros .ensures) at (c .step .ensures), refl)
+returns c = rw (c .before .before .enum-told .given .1) (rw (c .before .zeros .ensures) at (c .step .ensures .0), refl, c .step .ensures .1)
 
 returns-2 : tie.Need-returns-2
-returns-2 c = rw (c .before .before .enum-told2 .given .1) (rw (c .before .zeros2 .ensures) at (c .step2 .ensures), refl)
+returns-2 c = rw (c .before .before .enum-told2 .given .1) (rw (c .before .zeros2 .ensures) at (c .step2 .ensures .0), refl, c .step2 .ensures .1)
 
 returns-3 : tie.Need-returns-3
-returns-3 c = rw (c .before .before .piece .given .1) (c .step3 .ensures, refl)
+returns-3 c = rw (c .before .before .piece .given .1) (c .step3 .ensures .0, refl, c .step3 .ensures .1)
 
 same-length : tie.Need-same-length
 same-length c = search needs
@@ -103,7 +103,7 @@ returns-4 c =
     (c .before .before .before .before .before .before .least2 .ensures)
     (c .before .before .before .before .before .greatest .ensures)
     in
-    rw (piece .1) (rw same at (request .ensures .0), rw same at (request .ensures .1))
+    rw (piece .1) (rw same at (request .ensures .0), rw same at (request .ensures .1), request .ensures .2)
 
 pub answered-spec : {M : Type 1} → statement M
 answered-spec =

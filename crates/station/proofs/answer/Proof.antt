@@ -3,8 +3,6 @@ use Prim.Native.Nat.{_≤_}
 use mathlib.Core.Path.{sym}
 use lib.ListN.{length, take}
 use lib.Seq.{length-take-le}
-use Rattle.records.proofs.RoundTrip.{bytes-take}
-use Rattle.table.specs.Reached.{Reached}
 use Rattle.lines.proofs.Within.{progress-within, left-within}
 use borrow.Author.Needs.{needs}
 use Rattle.station.proofs.answer.Statement.{statement}
@@ -23,18 +21,14 @@ answer-requires c κs = search needs
 abbrev start : tie.After-answer → tie.Start
 start c = c .before .before .before .before .before .before
 
--- the run stays within the block and the buffer
-within : (c : tie.After-answer) → Reached (c .answer .result .run .station)
-    × (c .answer .result .taken ≤ length (take (start c .args .s .held) (start c .args .input .now)))
-    × (c .answer .result .written ≤ length (start c .args .output .now))
+-- the lines stay within the buffer
+within : (c : tie.After-answer) → c .answer .result .written ≤ length (start c .args .output .now)
 within c =
     let s = start c .args .s in
-    let input = start c .args .input .now in
-    progress-within (s .ended) (start c .args .output .now) (take (s .held) input) (bytes-take (s .held) input (λ i. c .before .before .before .before .before .slice-known .given i .fits))
-    (s .run) (start c .pre .reached) (c .answer .result) (c .answer .ensures .0)
+    progress-within (s .ended) (start c .args .output .now) (take (s .held) (start c .args .input .now)) (s .run) (c .answer .result) (c .answer .ensures .0) .1
 
 slice-reshare-prefix-write-all : tie.Need-slice-reshare-prefix-write-all
-slice-reshare-prefix-write-all c = rw (c .before .before .before .answer .kept .1 .1 .1 .0) (within (c .before .before .before) .2)
+slice-reshare-prefix-write-all c = rw (c .before .before .before .answer .kept .1 .1 .1 .0) (within (c .before .before .before))
 
 slice-aggregate-write-all : tie.Need-slice-aggregate-write-all
 slice-aggregate-write-all c = sym (length-take-le _ _ (slice-reshare-prefix-write-all (c .before)))
@@ -62,7 +56,7 @@ returns c =
     let answered = c .before .before .before .before .before .before .before .before .before .before .before in
     let start = start answered .args in
     record {
-      reached = within answered .0;
+      reached = answered .answer .ensures .2;
       held = rw (c .before .before .before .carry .ensures .0) (left-within (answered .answer .result .taken) (start .s .held) (start .input .now));
     }
 

@@ -5,8 +5,6 @@ use borrow.Author.Tests.{ltb-true}
 use native.Mathlib.Omega.{arith}
 use lib.ListN.{length}
 use Rattle.laws.proofs.Tests.{both-true}
-use Rattle.table.specs.Reached.{born}
-use Rattle.lines.specs.Lines.{settings}
 use Rattle.station.specs.Stages.{Sound}
 use Rattle.station.proofs.main.Statement.{statement}
 use Rattle.station.proofs.main.Tie as tie
@@ -30,7 +28,7 @@ loop-holds : tie.Need-loop-holds Inv-loop μ-loop
 loop-holds c = (
   sym (c .before .before .large-buffer .ensures),
   sym (c .before .large-buffer2 .ensures),
-  record { reached = rw (c .new .ensures) (born settings); held = omega arith },
+  record { reached = c .new .ensures .1; held = omega arith },
 )
 
 slice-aggregate-turn : tie.Need-slice-aggregate-turn Inv-loop μ-loop

@@ -106,9 +106,10 @@ loop-again c =
     let now = t .before .before .loop in
     let answer = c .before .before .before .before .before .before .before .before .before .before .answered in
     let line = c .before .before .before .before .before .before .before .line in (
-      turned (now .inv .0) (t .before .is-whole .ensures) (t .if1 .taken) (λ i. t .before .before .before .before .before .before .shared-slice-known .given i .fits) _ _ _ _ _ _ _
+      turned (now .inv .0) (t .before .is-whole .ensures) (t .if1 .taken) _ _ _ _ _ _ _
           (now .inv .1)
           (answer .ensures .0)
+          (answer .ensures .2)
           (line .ensures .0)
           (line .ensures .1)
           (c .before .before .before .wrapping-add-u64 .ensures)

@@ -14,7 +14,7 @@ abbrev fresh : Station → Run
 fresh s = record { station = s; place = 1 }
 
 returns : tie.Need-returns
-returns c = ap (λ (b : Birth). fresh (b .station)) (c .before .new .ensures)
+returns c = (ap (λ (b : Birth). fresh (b .station)) (c .before .new .ensures .0), c .before .new .ensures .1)
 
 pub new-spec : {M : Type 1} → statement M
 new-spec = tie.close (tie.spec new-requires returns)

@@ -10,11 +10,18 @@ use lib.Seq.{take-nil}
 use Rattle.laws.proofs.Tests.{on-either}
 use Rattle.records.specs.declared.Record.{Record}
 use Rattle.fields.specs.Fields.{oneRecord, allOfNeighbour, soonestDue, newRecord, aRequest, noChange}
-use Rattle.table.specs.Step.{complete}
+use Rattle.table.specs.declared.Answer.{Answer}
+use Rattle.table.specs.Reached.{Reached}
+use Rattle.table.specs.Step.{complete, stepOf}
+use Rattle.table.proofs.Reaching.{still-reached}
 use Rattle.table.proofs.Soundness.{sound}
 use borrow.Author.Needs.{needs}
 use Rattle.table.proofs.Station.step.Statement.{statement}
 use Rattle.table.proofs.Station.step.Tie as tie
+
+-- the answer has a station that a fresh one reaches
+reaching : (c : tie.Start) {a : Answer} → a ≡ stepOf (c .args .self) (c .args .e) [] 0 → (a ≡ stepOf (c .args .self) (c .args .e) [] 0) × Reached (a .station)
+reaching c {a} same = (same, still-reached (c .pre) (c .args .e) (search needs) [] 0 a same)
 
 -- without bytes after it no request is complete
 lacking : (e : Record) → complete e [] 0 ≡ false
@@ -29,7 +36,8 @@ about-one-requires c κs = sound (c .before .before .pre)
 returns : tie.Need-returns
 returns c =
     let sort = c .before .before .sort-of .result in
-    rw (← c .before .before .sort-of .ensures, eq-eqb sort oneRecord (c .before .if1 .taken)) (c .about-one .ensures)
+    reaching (c .before .before .before)
+    (rw (← c .before .before .sort-of .ensures, eq-eqb sort oneRecord (c .before .if1 .taken)) (c .about-one .ensures))
 
 tick-requires : tie.Need-tick-requires
 tick-requires c κs = sound (c .before .before .before .pre)
@@ -37,7 +45,8 @@ tick-requires c κs = sound (c .before .before .before .pre)
 returns-2 : tie.Need-returns-2
 returns-2 c =
     let sort = c .before .before .before .sort-of .result in
-    rw (← c .before .before .before .sort-of .ensures, ne-eqb sort oneRecord (c .before .before .if1 .left), eq-eqb sort soonestDue (c .before .if2 .taken)) (c .tick .ensures)
+    reaching (c .before .before .before .before)
+    (rw (← c .before .before .before .sort-of .ensures, ne-eqb sort oneRecord (c .before .before .if1 .left), eq-eqb sort soonestDue (c .before .if2 .taken)) (c .tick .ensures))
 
 start-requires : tie.Need-start-requires
 start-requires c κs = sound (c .before .before .before .before .pre)
@@ -45,7 +54,8 @@ start-requires c κs = sound (c .before .before .before .before .pre)
 returns-3 : tie.Need-returns-3
 returns-3 c =
     let sort = c .before .before .before .before .sort-of .result in
-    rw (← c .before .before .before .before .sort-of .ensures, ne-eqb sort oneRecord (c .before .before .before .if1 .left), ne-eqb sort soonestDue (c .before .before .if2 .left), eq-eqb sort newRecord (c .before .if3 .taken)) (c .start .ensures)
+    reaching (c .before .before .before .before .before)
+    (rw (← c .before .before .before .before .sort-of .ensures, ne-eqb sort oneRecord (c .before .before .before .if1 .left), ne-eqb sort soonestDue (c .before .before .if2 .left), eq-eqb sort newRecord (c .before .if3 .taken)) (c .start .ensures))
 
 reset-by-requires : tie.Need-reset-by-requires
 reset-by-requires c κs = sound (c .before .before .before .before .before .pre)
@@ -53,20 +63,22 @@ reset-by-requires c κs = sound (c .before .before .before .before .before .pre)
 returns-4 : tie.Need-returns-4
 returns-4 c =
     let sort = c .before .before .before .before .before .sort-of .result in
-    rw (← c .before .before .before .before .before .sort-of .ensures, ne-eqb sort oneRecord (c .before .before .before .before .if1 .left), ne-eqb sort soonestDue (c .before .before .before .if2 .left), ne-eqb sort newRecord (c .before .before .if3 .left), eq-eqb sort allOfNeighbour (c .before .if4 .taken)) (c .reset-by .ensures)
+    reaching (c .before .before .before .before .before .before)
+    (rw (← c .before .before .before .before .before .sort-of .ensures, ne-eqb sort oneRecord (c .before .before .before .before .if1 .left), ne-eqb sort soonestDue (c .before .before .before .if2 .left), ne-eqb sort newRecord (c .before .before .if3 .left), eq-eqb sort allOfNeighbour (c .before .if4 .taken)) (c .reset-by .ensures))
 
 quiet-requires : tie.Need-quiet-requires
 quiet-requires c κs = search needs
 
 returns-5 : tie.Need-returns-5
 returns-5 c =
-    let e = c .before .before .before .before .before .before .before .args .e in
+    let start = c .before .before .before .before .before .before .before in
     let sort = c .before .before .before .before .before .before .sort-of .result in
-    rw (← c .before .before .before .before .before .before .sort-of .ensures, ne-eqb sort oneRecord (c .before .before .before .before .before .if1 .left), ne-eqb sort soonestDue (c .before .before .before .before .if2 .left), ne-eqb sort newRecord (c .before .before .before .if3 .left), ne-eqb sort allOfNeighbour (c .before .before .if4 .left))
+    reaching start
+    (rw (← c .before .before .before .before .before .before .sort-of .ensures, ne-eqb sort oneRecord (c .before .before .before .before .before .if1 .left), ne-eqb sort soonestDue (c .before .before .before .before .if2 .left), ne-eqb sort newRecord (c .before .before .before .if3 .left), ne-eqb sort allOfNeighbour (c .before .before .if4 .left))
     (⊎-elim
     (λ t. rw (t .0 .taken, c .quiet .ensures, t .1))
-    (λ t. rw (ne-eqb sort noChange (t .0 .left), c .quiet .ensures, t .1, lacking e) (sym (on-either (eqb sort aRequest) _)))
-    (c .before .if5 .came))
+    (λ t. rw (ne-eqb sort noChange (t .0 .left), c .quiet .ensures, t .1, lacking (start .args .e)) (sym (on-either (eqb sort aRequest) _)))
+    (c .before .if5 .came)))
 
 pub step-spec : {M : Type 1} → statement M
 step-spec =
