@@ -10,6 +10,7 @@ use lib.Dec.{leb, eqb}
 use lib.ListN.{getD}
 use Rattle.laws.proofs.Tests.{by-cases, both-true, below, below-at, same-at}
 use Rattle.records.specs.declared.Record.{Record}
+use Rattle.records.specs.Record.{altered}
 use Rattle.fields.specs.Fields.{oneRecord, sortOf}
 use Rattle.fields.proofs.Sorts.{every-kind}
 use Rattle.handover.specs.declared.Decision.{Decision}
@@ -91,24 +92,7 @@ dueRows =
 -- ---- what is decided
 
 abbrev ofKind : ℕ → Record → Record
-ofKind kind e =
-    record {
-      kind = kind;
-      neighbour = e .neighbour;
-      old = e .old;
-      new = e .new;
-      first = e .first;
-      second = e .second;
-      reason = e .reason;
-      byte11 = e .byte11;
-      number = e .number;
-      time = e .time;
-      erab = e .erab;
-      qci = e .qci;
-      priority = e .priority;
-      flags = e .flags;
-      bytes28 = e .bytes28;
-    }
+ofKind kind e = altered kind (e .neighbour) (e .number) (e .time) e
 
 abbrev inState : ℕ → Entry → Entry
 inState state r =

@@ -5,6 +5,7 @@ use mathlib.Core.Path.{_≡_, refl, sym, _∙_}
 use mathlib.Core.Bool.{Bool, true, false, cond, not, _&&_, false≢true}
 use mathlib.Core.List.{List, [], _∷_}
 use mathlib.Core.Option.{none, some}
+use borrow.Author.Needs.{needs}
 use borrow.Author.Tests.{eqb-true, eq-eqb, ltb-true, not-true}
 use lib.Count.{onesIn, ones}
 use lib.Dec.{eqb, ltb}
@@ -67,17 +68,17 @@ module _ (peer : Side → ℕ) where
 
 -- ---- whether it may
 
--- numbers with what each is below: whether they are, and what follows where each is
+-- numbers with what each is below: whether they are, and that they are
 abbrev pub below : List (ℕ × ℕ) → Bool
 below = every (λ i x. ltb (x .0) (x .1))
 
-abbrev pub Given : Type 0 → List (ℕ × ℕ) → Type 0
-Given G [] = G
-Given G (x ∷ xs) = x .0 < x .1 → Given G xs
+abbrev Below : List (ℕ × ℕ) → Type 0
+Below [] = Unit {0}
+Below (x ∷ xs) = (x .0 < x .1) × Below xs
 
-give : {G : Type 0} {xs : List (ℕ × ℕ)} → All (λ x. x .0 < x .1) xs → Given G xs → G
-give nothing g = g
-give (more p ps) g = give ps (g p)
+each : {xs : List (ℕ × ℕ)} → All (λ x. x .0 < x .1) xs → Below xs
+each nothing = tt
+each (more p ps) = (p, each ps)
 
 abbrev pub fields : Record → List (ℕ × ℕ)
 fields e =
@@ -86,26 +87,7 @@ fields e =
     ∷ (e .priority, 2 ^ 8) ∷ (e .flags, 2 ^ 8) ∷ (e .bytes28, 2 ^ 32) ∷ []
 
 pub in-range : (e : Record) → below (fields e) ≡ true → InRange e
-in-range e t =
-    give (all-pass _ (λ i x. ltb-true (x .0) (x .1)) (fields e) t)
-    (λ a b c d f g h i j k l m n o p.
-    record {
-      kind = a;
-      neighbour = b;
-      old = c;
-      new = d;
-      first = f;
-      second = g;
-      reason = h;
-      byte11 = i;
-      number = j;
-      time = k;
-      erab = l;
-      qci = m;
-      priority = n;
-      flags = o;
-      bytes28 = p;
-    })
+in-range e t = let all : Below (fields e) = each (all-pass _ (λ i x. ltb-true (x .0) (x .1)) (fields e) t) in search needs
 
 -- neither side has issued 2,000 numbers since a message was sent
 abbrev pub recent : Side → Numbers → List Envelope → Bool

@@ -11,6 +11,7 @@ use Rattle.table.specs.declared.Answer.{Answer}
 use Rattle.table.specs.declared.Settings.{Settings}
 use Rattle.table.specs.declared.Station.{Station}
 use Rattle.table.specs.Step.{stepOf, bornOf}
+use Rattle.records.specs.Record.{altered}
 use Rattle.promises.specs.Views.{Outgoing, NotOut, Preparing, Prepared, someOut, someHeld, out, held, sent, ending, to, issued}
 
 -- ---- two sides
@@ -184,24 +185,7 @@ module _ (peer : Side → ℕ) where
 -- "It arrives unaltered if it reaches the peer with the same Old ID" (its bearers are left open here, and so is all else); "in every other
 -- kind all fields arrive as sent, with the sender's neighbour number in byte 1".
 abbrev pub asSent : ℕ → Record → Record
-asSent p m =
-    record {
-      kind = m .kind;
-      neighbour = p;
-      old = m .old;
-      new = m .new;
-      first = m .first;
-      second = m .second;
-      reason = m .reason;
-      byte11 = m .byte11;
-      number = m .number;
-      time = m .time;
-      erab = m .erab;
-      qci = m .qci;
-      priority = m .priority;
-      flags = m .flags;
-      bytes28 = m .bytes28;
-    }
+asSent p m = altered (m .kind) p (m .number) (m .time) m
 
 pub data Carries (p : ℕ) (m : Record) (e : Record) : Type 0 where
   request : m .kind ≡ 1 → e .kind ≡ 1 → e .neighbour ≡ p → e .old .0 ≡ m .old .0 → Carries p m e

@@ -3,6 +3,7 @@ use Prim.Native.Nat.{ℕ, zero, suc, _+_, _≤_, _<_}
 use mathlib.Core.Path.{_≡_, refl, ap, subst, _∙_}
 use mathlib.Core.Bool.{Bool, true, false, cond, _&&_, _||_}
 use mathlib.Core.List.{List, [], _∷_, map}
+use borrow.Author.Needs.{needs}
 use borrow.Author.Tests.{ne-eqb}
 use store.Seg.{eqb-same}
 use native.Mathlib.Omega.{arith}
@@ -28,7 +29,7 @@ use Rattle.table.specs.Table.{find, findFrom, dueFrom}
 use Rattle.fields.proofs.Forms.{used-in-range}
 use Rattle.handover.proofs.Issuing.{issue-free, issue-used}
 use Rattle.promises.proofs.Rows.{row-step, start-step}
-use Rattle.promises.specs.Cases.{Seen, Case, settings, freshly, preparing, stationWith, issuedLast, startOf, bytesIn, runs, Holds, numbered, request, start, cancel, cases, noCase}
+use Rattle.promises.specs.Cases.{Seen, Case, settings, freshly, preparing, stationWith, issuedLast, startOf, bytesIn, runs, Holds, request, start, cancel, cases, noCase}
 
 -- ---- a station that issued 4,095 last
 
@@ -46,17 +47,14 @@ start-wraps s e bearers room i formed kind found last used unused =
     rw (start-step s e bearers room formed i kind found, issue-wraps s last used unused)
 
 -- What is handed in is in range.
-in-bytes : (kind neighbour old first number : ℕ) → kind ≤ 255 → neighbour ≤ 255 → old ≤ 4095 → first ≤ 255 → number ≤ 255 → InRange (numbered number 0 (message kind neighbour old 0 first 0 0))
-in-bytes kind neighbour old first number k n o f u = record { kind = omega arith; neighbour = omega arith; old = omega arith; new = omega arith; first = omega arith; second = omega arith; reason = omega arith; byte11 = omega arith; number = omega arith; time = omega arith; erab = omega arith; qci = omega arith; priority = omega arith; flags = omega arith; bytes28 = omega arith }
-
 pub start-small : InRange (start .event)
-start-small = in-bytes 9 3 0 32 0 (omega arith) (omega arith) (omega arith) (omega arith) (omega arith)
+start-small = search needs
 
 cancel-small : (n : ℕ) → n ≤ 4095 → InRange (cancel n .event)
-cancel-small n h = in-bytes 10 0 n 0 0 (omega arith) (omega arith) h (omega arith) (omega arith)
+cancel-small n h = search needs
 
 pub request-small : (bearers : List Record) → length bearers ≤ 255 → InRange (request bearers .event)
-request-small bearers h = in-bytes 1 3 7 0 (length bearers) (omega arith) (omega arith) (omega arith) (omega arith) h
+request-small bearers h = search needs
 
 pub fresh-reached : Reached freshly
 fresh-reached = born settings

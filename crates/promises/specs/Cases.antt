@@ -14,6 +14,7 @@ use Rattle.handover.specs.Numbers.{blank}
 use Rattle.table.specs.Reached.{Reached}
 use Rattle.table.specs.Step.{stepOf, verdictsOf, bornOf}
 use Rattle.table.specs.Table.{holding}
+use Rattle.records.specs.Record.{altered}
 
 -- an event, and the bearers that follow it
 pub record Event : Type 0 where
@@ -100,24 +101,7 @@ pub record Holds (c : Case) : Type 0 where
 
 -- a record with a number and a time
 abbrev pub numbered : ℕ → ℕ → Record → Record
-numbered number time m =
-    record {
-      kind = m .kind;
-      neighbour = m .neighbour;
-      old = m .old;
-      new = m .new;
-      first = m .first;
-      second = m .second;
-      reason = m .reason;
-      byte11 = m .byte11;
-      number = number;
-      time = time;
-      erab = m .erab;
-      qci = m .qci;
-      priority = m .priority;
-      flags = m .flags;
-      bytes28 = m .bytes28;
-    }
+numbered number time m = altered (m .kind) (m .neighbour) number time m
 
 -- a bearer without GBR information: its ID, QCI, priority and units
 abbrev pub bearer : ℕ → ℕ → ℕ → ℕ → Record

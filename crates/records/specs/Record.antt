@@ -109,3 +109,24 @@ pub record InRange (r : Record) : Type 0 where
   pub priority : r .priority < 2 ^ 8
   pub flags : r .flags < 2 ^ 8
   pub bytes28 : r .bytes28 < 2 ^ 32
+
+-- a record that is as another but for its kind, neighbour, number and time
+abbrev pub altered : ℕ → ℕ → ℕ → ℕ → Record → Record
+altered kind neighbour number time r =
+    record {
+      kind = kind;
+      neighbour = neighbour;
+      old = r .old;
+      new = r .new;
+      first = r .first;
+      second = r .second;
+      reason = r .reason;
+      byte11 = r .byte11;
+      number = number;
+      time = time;
+      erab = r .erab;
+      qci = r .qci;
+      priority = r .priority;
+      flags = r .flags;
+      bytes28 = r .bytes28;
+    }
