@@ -11,7 +11,6 @@
 use libc::STDIN_FILENO;
 use libc::STDOUT_FILENO;
 use lines::answered;
-use lines::size_of;
 use records::Read;
 use records::Record;
 use records::SIZE;
@@ -173,16 +172,16 @@ fn answer(c: Case, script: &[u8], verdicts: &mut [u8]) -> Case
     let at = c.at;
     let before = c.station;
     let room = io::count(c.room as isize, verdicts);
-    let piece = cut(&script[at..], 0);
-    let a = answered(before, piece, &script[at..], &mut verdicts[..room]);
+    let piece = cut(&script[at..]);
+    let end = at + piece.size;
+    let a = answered(before, &script[at..end], &mut verdicts[..room]);
     let o = a.outcome;
     let station = a.station;
-    let size = size_of(piece);
-    let shown = io::count((size / SIZE) as isize, verdicts);
+    let shown = io::count((piece.size / SIZE) as isize, verdicts);
     let next = Case {
         station,
         room: c.room,
-        at: at + size,
+        at: end,
         first: c.first,
         plays: c.plays,
         reply: o.reply,

@@ -3,12 +3,13 @@ use Prim.Native.Nat.{ℕ}
 use mathlib.Core.Path.{_≡_, refl}
 use mathlib.Core.Bool.{Bool, true, false, not, _||_}
 use mathlib.Core.List.{List}
-use borrow.Author.Tests.{eqb-true}
+use borrow.Author.Tests.{eqb-true, eqb-false}
 use lib.Dec.{eqb}
 use lib.ListN.{getD, replicate}
 use store.Seg.{eqb-same}
-use Rattle.laws.proofs.Tests.{every, every-at}
-use Rattle.fields.specs.Fields.{kinds, sortOf, noEvent, soonestDue, newRecord, aRequest}
+use Rattle.laws.proofs.Tests.{by-cases, every, every-at, refuted}
+use Rattle.records.specs.declared.Record.{Record}
+use Rattle.fields.specs.Fields.{kinds, sortOf, noEvent, soonestDue, newRecord, aRequest, wellFormed, sortOfEvent}
 
 -- A test that holds of every kind of the table and its sort, and of no event, holds of any number and its sort.
 pub every-kind : (test : ℕ → ℕ → Bool) → every (λ k row. test k (getD row 8 0)) kinds ≡ true → ((j : ℕ) → test j noEvent ≡ true) → (k : ℕ) → test k (sortOf k) ≡ true
@@ -28,3 +29,10 @@ module _ (k : ℕ) where
 
   pub tick-kind : sortOf k ≡ soonestDue → k ≡ 15
   tick-kind is = eqb-true k 15 (every-of-sort soonestDue (λ i. eqb i 15) refl refl k is)
+
+-- An event of another kind is no request.
+pub no-request : (e : Record) → eqb (e .kind) 1 ≡ false → eqb (sortOfEvent e) aRequest ≡ false
+no-request e other =
+    by-cases (wellFormed e)
+    (λ formed. rw formed (refuted (eqb (sortOf (e .kind)) aRequest) (λ t. eqb-false (e .kind) 1 other (request-kind (e .kind) (eqb-true (sortOf (e .kind)) aRequest t)))))
+    (λ malformed. rw malformed)

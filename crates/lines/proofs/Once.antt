@@ -5,12 +5,11 @@ use mathlib.Core.Bool.{Bool}
 use mathlib.Core.List.{List}
 use lib.ListN.{length}
 use lib.Seq.{sets}
-use Rattle.records.specs.declared.stream.Piece.{Piece}
 use Rattle.table.specs.declared.Answer.{Answer}
 use Rattle.table.specs.declared.Station.{Station}
 use Rattle.lines.specs.declared.Progress.{Progress}
 use Rattle.lines.specs.declared.Run.{Run}
-use Rattle.lines.specs.Lines.{sizeOf, answerTo, verdictsTo, newRun, workOf, progress, leftIn}
+use Rattle.lines.specs.Lines.{answerTo, verdictsTo, newRun, workOf, progress, leftIn}
 use Rattle.lines.specs.Text.{size, digits}
 
 -- There is one run at the start.
@@ -31,16 +30,12 @@ pub carry-once : (taken held : ℕ) (block : List ℕ) (a b : ℕ) (v w : List �
     → (a ≡ b) × (v ≡ w)
 carry-once taken held block a b v w p q = (p .0 ∙ sym (q .0), p .1 ∙ sym (q .1))
 
--- Of the same piece there is one number of bytes.
-pub size-of-once : (piece : Piece) (a b : ℕ) → a ≡ sizeOf piece → b ≡ sizeOf piece → a ≡ b
-size-of-once piece a b p q = p ∙ sym q
-
--- Of the same station, piece, bytes and buffer there is one answer, and one buffer afterwards.
-pub answered-once : (station : Station) (piece : Piece) (bytes verdicts : List ℕ) (a b : Answer) (v w : List ℕ)
-    → (a ≡ answerTo (length verdicts) station bytes piece) × (v ≡ verdictsTo station bytes piece verdicts)
-    → (b ≡ answerTo (length verdicts) station bytes piece) × (w ≡ verdictsTo station bytes piece verdicts)
+-- Of the same station, event and buffer there is one answer, and one buffer afterwards.
+pub answered-once : (station : Station) (event verdicts : List ℕ) (a b : Answer) (v w : List ℕ)
+    → (a ≡ answerTo (length verdicts) station event) × (v ≡ verdictsTo station event verdicts)
+    → (b ≡ answerTo (length verdicts) station event) × (w ≡ verdictsTo station event verdicts)
     → (a ≡ b) × (v ≡ w)
-answered-once station piece bytes verdicts a b v w p q = (p .0 ∙ sym (q .0), p .1 ∙ sym (q .1))
+answered-once station event verdicts a b v w p q = (p .0 ∙ sym (q .0), p .1 ∙ sym (q .1))
 
 -- A number has one count of digits, and of the same number, count, buffer and place there is one buffer afterwards.
 pub digits-once : (n a b : ℕ) → a ≡ size n → b ≡ size n → a ≡ b

@@ -10,15 +10,16 @@ use lib.Dec.{leb}
 use lib.ListN.{length, take, drop, length-drop}
 use lib.Seq.{sets, length-sets, take-all}
 use Rattle.laws.proofs.Tests.{both-true}
-use Rattle.records.specs.Stream.{pieceAt}
+use Rattle.records.specs.Stream.{pieceOf, firstOf}
 use Rattle.records.specs.declared.stream.Piece.{Piece}
+use Rattle.records.proofs.Cutting as cutting
 use Rattle.table.specs.declared.Answer.{Answer}
 use Rattle.table.specs.declared.Station.{Station}
 use Rattle.table.specs.Reached.{Reached}
 use Rattle.lines.specs.declared.Run.{Run}
-use Rattle.lines.specs.Lines.{lineOf, sizeOf, isWhole, answerTo, Work, goesOn, onward, workOn, workOf, progress}
+use Rattle.lines.specs.Lines.{lineOf, isWhole, answerTo, Work, goesOn, onward, workOn, workOf, progress}
 use Rattle.lines.proofs.Digits.{line-most}
-use Rattle.lines.proofs.Going.{within, some-byte, some-left, goes, stops}
+use Rattle.lines.proofs.Going.{some-byte, goes, stops}
 use Rattle.lines.proofs.Writing.{joined}
 
 -- the part of a block from a place on
@@ -33,7 +34,7 @@ working station place taken text = record { run = record { station = station; pl
 pub record Head (bytes : List ℕ) (ended : Bool) (buffer : List ℕ) (run : Run) (out : List ℕ) (station : Station) (place taken written : ℕ) (piece : Piece) : Type 0 where
   pub text : List ℕ
   pub most : ℕ
-  pub front : piece ≡ pieceAt (drop taken bytes) 0
+  pub front : piece ≡ pieceOf (drop taken bytes)
   pub reached : Reached station
   pub within-block : taken ≤ length bytes
   pub enough : length bytes ≤ taken + most
@@ -44,14 +45,14 @@ pub record Head (bytes : List ℕ) (ended : Bool) (buffer : List ℕ) (run : Run
 
 module _ {bytes : List ℕ} {ended : Bool} {buffer : List ℕ} {run : Run} {out : List ℕ} {station : Station} {place taken written : ℕ} {piece : Piece}
     (head : Head bytes ended buffer run out station place taken written piece) where
-  pub size-left : sizeOf piece ≤ length bytes - taken
-  size-left = rw (head .front) (omega (arith, within (drop taken bytes), length-drop taken bytes))
+  pub size-left : piece .size ≤ length bytes - taken
+  size-left = rw (head .front) (omega (arith, cutting.onward (drop taken bytes) .0, length-drop taken bytes))
 
   pub same-length : length out ≡ length buffer
   same-length = ap length (head .wrote) ∙ length-sets buffer 0 (head .text)
 
   -- What was found of the piece, and of the room with it, is the definition's test.
-  module _ {whole : Bool} (found : whole ≡ isWhole ended (length bytes - taken) piece) where
+  module _ {whole : Bool} (found : whole ≡ isWhole ended piece) where
     tested : (whole && leb 189 (length out - written)) ≡ goesOn ended (length buffer) bytes (working station place taken (head .text))
     tested = rw (found, head .front, same-length, head .size)
 
@@ -73,32 +74,33 @@ module _ {bytes : List ℕ} {ended : Bool} {buffer : List ℕ} {run : Run} {out 
       pub has-room : written + 189 ≤ length out
       has-room = omega (arith, leb-true 189 (length out - written) (both .1))
 
-      pub some : 0 < sizeOf piece
-      some =
-          let rest = drop taken bytes in
-          rw (head .front) (some-byte rest (some-left rest ended (length bytes - taken) (rw (head .front) at (sym found ∙ both .0))))
+      pub some : 0 < piece .size
+      some = rw (head .front) (some-byte ended (drop taken bytes) (rw (head .front) at (sym found ∙ both .0)))
 
       -- One event: the next head, from what the turn's calls gave.
-      pub turned : (left : List ℕ) (a : Answer) (room place' size end : ℕ) (piece' : Piece) → room ≡ 256
-          → a ≡ answerTo room station (take (length bytes - taken) (drop taken bytes)) piece → Reached (a .station)
+      pub turned : (left : List ℕ) (a : Answer) (room place' end : ℕ) (piece' : Piece) → room ≡ 256
+          → a ≡ answerTo room station (take (taken + piece .size - taken) (drop taken bytes)) → Reached (a .station)
           → end ≡ written + length (lineOf place (a .outcome)) → left ≡ sets out written (lineOf place (a .outcome))
-          → place' ≡ (place + 1) % 2 ^ 64 → size ≡ sizeOf piece
-          → piece' ≡ pieceAt (take (length bytes - (taken + size)) (drop (taken + size) bytes)) 0
-          → Head bytes ended buffer run left (a .station) place' (taken + size) end piece'
-      turned left a room place' size end piece' lent answer reached ends writes counts sizes next =
+          → place' ≡ (place + 1) % 2 ^ 64
+          → piece' ≡ pieceOf (take (length bytes - (taken + piece .size)) (drop (taken + piece .size) bytes))
+          → Head bytes ended buffer run left (a .station) place' (taken + piece .size) end piece'
+      turned left a room place' end piece' lent answer reached ends writes counts next =
           let rest = drop taken bytes in
+          let size = piece .size in
           let line = lineOf place (a .outcome) in
           let most = head .most - 1 in
           let w = working station place taken (head .text) in
-          let given : a ≡ answerTo 256 station rest (pieceAt rest 0) = answer ∙ rw (lent, part bytes taken, head .front) in
-          let sized : size ≡ sizeOf (pieceAt rest 0) = sizes ∙ ap sizeOf (head .front) in
+          let sized : size ≡ pieceOf rest .size = ap (λ (p : Piece). p .size) (head .front) in
+          let span : taken + size - taken ≡ pieceOf rest .size = omega arith in
+          let event : take (taken + size - taken) rest ≡ firstOf rest = ap (λ (k : ℕ). take k rest) span in
+          let given : a ≡ answerTo 256 station (firstOf rest) = answer ∙ rw (lent, event) in
           let further : head .most ≡ suc most = omega (arith, some, size-left) in
           let moved : working (a .station) place' (taken + size) (head .text ++ line) ≡ onward bytes w = rw (given, counts, sized) in
           let written = joined buffer out left 0 written end (head .text) line (head .size ∙ sym (zero-add _)) (head .wrote) ends writes in
           record {
             text = head .text ++ line;
             most = most;
-            front = next ∙ ap (λ (l : List ℕ). pieceAt l 0) (part bytes (taken + size));
+            front = next ∙ ap pieceOf (part bytes (taken + size));
             reached = reached;
             within-block = omega (arith, size-left);
             enough = omega (arith, some);

@@ -8,12 +8,13 @@ use native.Mathlib.Omega.{arith}
 use lib.Dec.{leb}
 use lib.ListN.{length, take, drop, length-append, length-take, length-drop}
 use Rattle.laws.proofs.Tests.{by-cases, both-true}
-use Rattle.records.specs.Stream.{pieceAt}
+use Rattle.records.specs.Stream.{pieceOf, firstOf}
+use Rattle.records.proofs.Cutting as cutting
 use Rattle.lines.specs.declared.Progress.{Progress}
 use Rattle.lines.specs.declared.Run.{Run}
 use Rattle.lines.specs.Lines.{isWhole, answerTo, lineOf, Work, beginning, goesOn, onward, workOn, workOf, progress, leftIn}
 use Rattle.lines.proofs.Digits.{line-most}
-use Rattle.lines.proofs.Going.{within, goes, stops}
+use Rattle.lines.proofs.Going.{goes, stops}
 
 module _ (ended : Bool) (room : ℕ) (bytes : List ℕ) where
   pub record Within (w : Work) : Type 0 where
@@ -24,10 +25,10 @@ module _ (ended : Bool) (room : ℕ) (bytes : List ℕ) where
   one w t h =
       let rest = drop (w .taken) bytes in
       let place = w .run .place in
-      let fits : leb 189 (room - length (w .text)) ≡ true = both-true (isWhole ended (length bytes - w .taken) (pieceAt rest 0)) _ t .1 in
-      let outcome = answerTo 256 (w .run .station) rest (pieceAt rest 0) .outcome in
+      let fits : leb 189 (room - length (w .text)) ≡ true = both-true (isWhole ended (pieceOf rest)) _ t .1 in
+      let outcome = answerTo 256 (w .run .station) (firstOf rest) .outcome in
       record {
-        taken = omega (arith, within rest, length-drop (w .taken) bytes);
+        taken = omega (arith, cutting.onward rest .0, length-drop (w .taken) bytes);
         written = omega (arith, length-append (w .text) (lineOf place outcome), line-most place outcome, leb-true 189 (room - length (w .text)) fits);
       }
 

@@ -3,6 +3,7 @@ pub mod text;
 
 use crate::text::cell;
 use crate::text::cells;
+use records::Read;
 use records::Record;
 use records::SIZE;
 use records::stream::Piece;
@@ -13,13 +14,11 @@ use table::Outcome;
 use table::Settings;
 use table::Station;
 ghost use mathlib.Core.Path.{_≡_};
-ghost use Prim.Native.Nat.{_+_, _≤_, min, max};
-ghost use mathlib.Core.List.{[]};
+ghost use Prim.Native.Nat.{_+_, _≤_, min};
 ghost use lib.ListN.{length};
 ghost use lib.Seq.{sets};
-ghost use Rattle.records.specs.Stream.{pieceAt};
 ghost use Rattle.table.specs.Reached.{Reached};
-ghost use Rattle.lines.specs.Lines.{lineOf, sizeOf, isWhole, answerTo, verdictsTo, newRun, workOf, progress, leftIn};
+ghost use Rattle.lines.specs.Lines.{lineOf, isWhole, answerTo, verdictsTo, newRun, workOf, progress, leftIn};
 
 // The longest line: nine numbers of at most 20 digits, and a byte after each.
 pub const LONGEST: usize = 189;
@@ -59,46 +58,28 @@ fn line(place: u64, o: Outcome, out: &mut [u8], at: usize) -> usize
     cell(o.ending as u64, 10, out, next)
 }
 
-// Whether what stands at the front of so many bytes is an event, whatever comes after them.
-fn is_whole(piece: Piece, left: usize, ended: bool) -> bool
-    requires { ⌜ sizeOf piece ≤ left ⌝ }
-    ensures { λ r. ⌜ r ≡ isWhole ended left piece ⌝ }
+// Whether what stands at the front of some bytes is an event: whatever comes after them, or because nothing does.
+fn is_whole(piece: Piece, ended: bool) -> bool
+    ensures { λ r. ⌜ r ≡ isWhole ended piece ⌝ }
 {
-    match piece {
-        Piece::Nothing => false,
-        Piece::Short(_) => ended,
-        Piece::Single(_, _) => true,
-        Piece::Request(r, next) => {
-            ended | (next == SIZE + r.number as usize * SIZE) | (SIZE <= left - next)
-        }
-    }
+    piece.whole | (ended & (0 < piece.size))
 }
 
-// How many bytes an event has.
-pub fn size_of(piece: Piece) -> usize
-    ensures { λ r. ⌜ r ≡ sizeOf piece ⌝ }
-{
-    match piece {
-        Piece::Nothing => 0,
-        Piece::Short(next) => next,
-        Piece::Single(_, next) => next,
-        Piece::Request(_, next) => next,
-    }
-}
-
-// A station's answer to what stands at the front of some bytes; a request's verdicts go to the buffer.
-pub fn answered(station: Station, piece: Piece, bytes: &[u8], verdicts: &mut [u8]) -> Answer
+// A station's answer to the bytes of one event, a record and the bearer records that it takes, or fewer bytes than a record has: these
+// are malformed. A request's verdicts go to the buffer.
+pub fn answered(station: Station, event: &[u8], verdicts: &mut [u8]) -> Answer
     requires { ⌜ Reached station ⌝ }
-    ensures { λ a. ⌜ (a ≡ answerTo (length (now (verdicts .entry))) station (now (bytes .entry)) piece) × (now (verdicts .exit) ≡ verdictsTo station (now (bytes .entry)) piece (now (verdicts .entry))) × Reached (a .station) ⌝ }
+    ensures { λ a. ⌜ (a ≡ answerTo (length (now (verdicts .entry))) station (now (event .entry))) × (now (verdicts .exit) ≡ verdictsTo station (now (event .entry)) (now (verdicts .entry))) × Reached (a .station) ⌝ }
 {
-    match piece {
-        Piece::Nothing => station.step(Record::zeros()),
-        Piece::Short(_) => station.step(Record::zeros()),
-        Piece::Single(r, _) => station.step(r),
-        Piece::Request(r, next) => {
-            let from = least(SIZE, bytes.len());
-            let to = greatest(from, least(next, bytes.len()));
-            station.request(r, &bytes[from..to], verdicts)
+    let read = Record::read(event, 0);
+    match read {
+        Read::Nothing => station.step(Record::zeros()),
+        Read::Whole(r) => {
+            if r.kind == 1 {
+                return station.request(r, &event[SIZE..], verdicts);
+            }
+            // `request` would answer the same, with one copy of the station more
+            station.step(r)
         }
     }
 }
@@ -122,12 +103,6 @@ fn least(a: usize, b: usize) -> usize
     ensures { λ r. ⌜ r ≡ min a b ⌝ }
 {
     if a < b { a } else { b }
-}
-
-fn greatest(a: usize, b: usize) -> usize
-    ensures { λ r. ⌜ r ≡ max a b ⌝ }
-{
-    if a < b { b } else { a }
 }
 
 impl Run {
@@ -157,14 +132,15 @@ impl Run {
         let mut taken: usize = 0;
         let mut written: usize = 0;
         let mut verdicts = [0u8; 256];
-        let mut piece = cut(bytes, 0);
-        while is_whole(piece, bytes.len() - taken, ended) & (LONGEST <= out.len() - written) {
-            let a = answered(station, piece, &bytes[taken..], &mut verdicts);
+        let mut piece = cut(bytes);
+        while is_whole(piece, ended) & (LONGEST <= out.len() - written) {
+            let end = taken + piece.size;
+            let a = answered(station, &bytes[taken..end], &mut verdicts);
             written = line(place, a.outcome, out, written);
             station = a.station;
             place = wrapping_add_u64(place, 1);
-            taken += size_of(piece);
-            piece = cut(&bytes[taken..], 0);
+            taken = end;
+            piece = cut(&bytes[taken..]);
         }
         Progress {
             run: Run { station, place },

@@ -1,17 +1,15 @@
 -- A stream is cut into events with no byte left out and none taken twice.
-use Prim.Native.Nat.{ℕ, zero, suc, _+_, _*_, _-_, _≤_, _<_}
+use Prim.Native.Nat.{ℕ, zero, suc, _*_, _-_, _≤_, _<_}
 use mathlib.Core.Path.{_≡_, sym, ap}
-use mathlib.Core.List.{List, [], _∷_, flatten, List·Memᴰ, List·Memᴰ·not-nil, List·Memᴰ·cases-cons}
+use mathlib.Core.List.{List, flatten, List·Memᴰ, List·Memᴰ·not-nil, List·Memᴰ·cases-cons}
 use mathlib.Core.Logic.{⊎-elim}
-use mathlib.Core.Option.{Option, none, some, Option·elim}
 use borrow.Author.Tests.{leb-true, leb-false}
 use native.Mathlib.Omega.{arith}
 use lib.Dec.{leb}
-use lib.ListN.{length, take, drop, length-take, length-drop, take-append-drop, drop-of-length-le}
-use lib.Seq.{drop-drop}
+use lib.ListN.{length, drop, length-take, length-drop, take-append-drop, drop-of-length-le}
 use Rattle.laws.proofs.Tests.{by-cases, both-true}
 use Rattle.records.specs.Record.{recordAt, roomAt}
-use Rattle.records.specs.Stream.{takesBearers, bearerFirst, bearersIn, pieceAt, nextOf, eventsFrom, events}
+use Rattle.records.specs.Stream.{takesBearers, bearerFirst, bearersIn, pieceOf, eventsIn, events}
 
 -- The bearers that are taken stand in the stream.
 pub bearers-within : (most : ℕ) (rest : List ℕ) → 32 * bearersIn most rest ≤ length rest
@@ -23,57 +21,46 @@ bearers-within (suc most) rest =
     (λ t. rw t (omega (arith, leb-true 32 (length rest) (both-true (leb 32 (length rest)) _ t .0))))
     (λ t. rw t (omega arith))
 
--- Where the next event may start: further on and within the stream; and there is no event only where the stream has ended.
-abbrev pub Onward : List ℕ → ℕ → Option ℕ → Type 0
-Onward bytes at none = length bytes ≤ at
-Onward bytes at (some next) = (at < next) × (next ≤ length bytes)
+-- An event lies within the bytes, and has one of them at least, if there is one: whoever goes on from event to event comes to the end.
+pub onward : (bytes : List ℕ) → (pieceOf bytes .size ≤ length bytes) × (0 < length bytes → 0 < pieceOf bytes .size)
+onward bytes =
+    let r = recordAt bytes 0 in
+    by-cases (roomAt bytes 0)
+    (λ room.
+    let long = leb-true 32 (length bytes) room in
+    by-cases (takesBearers r)
+    (λ takes. rw (room, takes) (omega (arith, rw length-drop at (bearers-within (r .number) (drop 32 bytes))), λ some. omega arith))
+    (λ single. rw (room, single) (long, λ some. omega arith)))
+    (λ short. rw short (omega arith, λ some. some))
 
--- The next place always grows and stays within the stream, so whoever goes on from place to place comes to the end.
-pub onward : (bytes : List ℕ) (at : ℕ) → Onward bytes at (nextOf (pieceAt bytes at))
-onward bytes at =
-    let r = recordAt bytes at in
-    by-cases (leb (length bytes) at)
-    (λ ended. rw ended (leb-true (length bytes) at ended))
-    (λ more. by-cases (roomAt bytes at)
-    (λ room. by-cases (takesBearers r)
-    (λ takes. rw (more, room, takes) (omega (arith, leb-true (at + 32) (length bytes) room, rw length-drop at (bearers-within (r .number) (drop (at + 32) bytes)))))
-    (λ single. rw (more, room, single) (omega (arith, leb-true (at + 32) (length bytes) room))))
-    (λ short. rw (more, short) (omega (arith, leb-false (length bytes) at more))))
+-- The events of a stream, put together, are the stream, where as many steps as bytes are taken.
+together-in : (steps : ℕ) (bytes : List ℕ) → length bytes ≤ steps → flatten (eventsIn steps bytes) ≡ bytes
+unfolding flatten eventsIn
+together-in zero bytes h = sym (drop-of-length-le bytes {i = 0} h)
+together-in (suc steps) bytes h =
+    let size = pieceOf bytes .size in
+    by-cases (leb (length bytes) 0)
+    (λ none. rw none (sym (drop-of-length-le bytes {i = 0} (leb-true (length bytes) 0 none))))
+    (λ some.
+    let shorter : length (drop size bytes) ≤ steps = omega (arith, length-drop size bytes, onward bytes .1 (leb-false (length bytes) 0 some)) in
+    rw (some, together-in steps (drop size bytes) shorter) (take-append-drop size bytes))
 
--- one event and those after it
-joined : (bytes : List ℕ) (at : ℕ) (after : ℕ → List (List ℕ)) (o : Option ℕ) → Onward bytes at o → ((next : ℕ) → at < next → flatten (after next) ≡ drop next bytes) → flatten (Option·elim o [] (λ next. take (next - at) (drop at bytes) ∷ after next)) ≡ drop at bytes
-unfolding flatten Option·elim
-joined bytes at after none h ih = sym (drop-of-length-le bytes h)
-joined bytes at after (some next) h ih =
-    let there : at + (next - at) ≡ next = omega arith in
-    let left : drop next bytes ≡ drop (next - at) (drop at bytes) = rw (drop-drop, there) in
-    rw (ih next (h .0), left) (take-append-drop (next - at) (drop at bytes))
-
--- The events from a place on, put together, are what is left of the stream there.
-pub together-from : (steps : ℕ) (bytes : List ℕ) (at : ℕ) → length bytes ≤ at + steps → flatten (eventsFrom steps bytes at) ≡ drop at bytes
-unfolding flatten eventsFrom
-together-from zero bytes at h = sym (drop-of-length-le bytes {i = at} (omega arith))
-together-from (suc steps) bytes at h =
-    joined bytes at (eventsFrom steps bytes) (nextOf (pieceAt bytes at)) (onward bytes at) (λ next further. together-from steps bytes next (omega arith))
-
--- The events of a stream, put together, are the stream: each byte belongs to exactly one.
+-- Each byte of a stream belongs to exactly one event.
 pub together : (bytes : List ℕ) → flatten (events bytes) ≡ bytes
-together bytes = together-from (length bytes) bytes 0 (omega arith)
+together bytes = together-in (length bytes) bytes (omega arith)
 
--- one event and those after it
-some-each : (bytes : List ℕ) (at : ℕ) (after : ℕ → List (List ℕ)) (o : Option ℕ) → Onward bytes at o → (event : List ℕ) → ((next : ℕ) → List·Memᴰ event (after next) → 0 < length event) → List·Memᴰ event (Option·elim o [] (λ next. take (next - at) (drop at bytes) ∷ after next)) → 0 < length event
-unfolding Option·elim
-some-each bytes at after none h event ih m = absurd (List·Memᴰ·not-nil m)
-some-each bytes at after (some next) h event ih m =
-    ⊎-elim (λ e. omega (arith, rw (length-take, length-drop) at (ap length e))) (ih next) (List·Memᴰ·cases-cons m)
-
--- No event from a place on is empty.
-pub some-from : (steps : ℕ) (bytes : List ℕ) (at : ℕ) (event : List ℕ) → List·Memᴰ event (eventsFrom steps bytes at) → 0 < length event
-unfolding eventsFrom
-some-from zero bytes at event m = absurd (List·Memᴰ·not-nil m)
-some-from (suc steps) bytes at event m =
-    some-each bytes at (eventsFrom steps bytes) (nextOf (pieceAt bytes at)) (onward bytes at) event (λ next m. some-from steps bytes next event m) m
+-- each is cut from bytes that are left, so that it has one
+some-in : (steps : ℕ) (bytes event : List ℕ) → List·Memᴰ event (eventsIn steps bytes) → 0 < length event
+unfolding eventsIn
+some-in zero bytes event m = absurd (List·Memᴰ·not-nil m)
+some-in (suc steps) bytes event m =
+    let size = pieceOf bytes .size in
+    by-cases (leb (length bytes) 0)
+    (λ none. absurd (List·Memᴰ·not-nil (rw none at m)))
+    (λ some.
+    let here = onward bytes .1 (leb-false (length bytes) 0 some) in
+    ⊎-elim (λ e. omega (arith, rw length-take at (ap length e), leb-false (length bytes) 0 some)) (some-in steps (drop size bytes) event) (List·Memᴰ·cases-cons (rw some at m)))
 
 -- No event of a stream is empty.
 pub some-byte : (bytes event : List ℕ) → List·Memᴰ event (events bytes) → 0 < length event
-some-byte bytes = some-from (length bytes) bytes 0
+some-byte bytes = some-in (length bytes) bytes

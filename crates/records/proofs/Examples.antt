@@ -1,12 +1,12 @@
 -- Where each field stands, and how a stream is cut, at examples written out byte by byte.
 use Prim.Native.Nat.{ℕ}
 use mathlib.Core.Path.{_≡_, refl}
+use mathlib.Core.Bool.{true, false}
 use mathlib.Core.List.{List, [], _∷_, _++_, map}
-use lib.ListN.{replicate}
+use lib.ListN.{drop, replicate}
 use Rattle.records.specs.declared.Record.{Record}
-use Rattle.records.specs.declared.stream.Piece.the-variants.{Nothing, Short, Single, Request}
 use Rattle.records.specs.Record.{little, recordOf, bytesOf, zeros}
-use Rattle.records.specs.Stream.{bearersIn, pieceAt}
+use Rattle.records.specs.Stream.{bearersIn, pieceOf}
 
 -- ---- fields
 
@@ -55,18 +55,24 @@ plain kind number = kind ∷ replicate 11 0 ++ number ∷ replicate 19 0
 abbrev stream : List ℕ
 stream = plain 1 2 ++ plain 16 0 ++ plain 16 0 ++ plain 16 0 ++ plain 1 2 ++ plain 16 0 ++ plain 15 0 ++ replicate 5 1
 
--- the first request takes two of the three; the third is an event of its own; the second request has one; and the rest is short
+-- the event at each place: the first request takes two of the three bearers; the third is an event of its own; the second request has
+-- one, and takes no more; and the rest is short
 pub cuts :
-    map (pieceAt stream) (0 ∷ 96 ∷ 128 ∷ 192 ∷ 224 ∷ 229 ∷ [])
-    ≡ Request (recordOf (plain 1 2)) 96
-    ∷ Single (recordOf (plain 16 0)) 128
-    ∷ Request (recordOf (plain 1 2)) 192
-    ∷ Single (recordOf (plain 15 0)) 224
-    ∷ Short 229
-    ∷ Nothing
+    map (λ at. pieceOf (drop at stream)) (0 ∷ 96 ∷ 128 ∷ 192 ∷ 224 ∷ 229 ∷ [])
+    ≡ record { head = recordOf (plain 1 2); size = 96; whole = true }
+    ∷ record { head = recordOf (plain 16 0); size = 32; whole = true }
+    ∷ record { head = recordOf (plain 1 2); size = 64; whole = true }
+    ∷ record { head = recordOf (plain 15 0); size = 32; whole = true }
+    ∷ record { head = zeros; size = 5; whole = false }
+    ∷ record { head = zeros; size = 0; whole = false }
     ∷ []
 unfolding recordOf little bearersIn
 cuts = refl
+
+-- a request of two with one bearer after it, and fewer bytes than a record has: it may take more
+pub cuts-open : pieceOf (plain 1 2 ++ plain 16 0 ++ replicate 31 1) ≡ record { head = recordOf (plain 1 2); size = 64; whole = false }
+unfolding recordOf little bearersIn
+cuts-open = refl
 
 -- a request of 257 bearers
 abbrev tooMany : List ℕ
@@ -74,9 +80,9 @@ tooMany = 1 ∷ replicate 11 0 ++ 1 ∷ 1 ∷ replicate 18 0
 
 -- a count of 0 or of 257 takes none: each is an event of its own
 pub cuts-none :
-    map (λ bytes. pieceAt bytes 0) ((plain 1 0 ++ plain 16 0) ∷ (tooMany ++ plain 16 0) ∷ [])
-    ≡ Single (recordOf (plain 1 0)) 32
-    ∷ Single (recordOf tooMany) 32
+    map pieceOf ((plain 1 0 ++ plain 16 0) ∷ (tooMany ++ plain 16 0) ∷ [])
+    ≡ record { head = recordOf (plain 1 0); size = 32; whole = true }
+    ∷ record { head = recordOf tooMany; size = 32; whole = true }
     ∷ []
 unfolding recordOf little bearersIn
 cuts-none = refl

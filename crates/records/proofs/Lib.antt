@@ -4,3 +4,4 @@ pub mod Little
 pub mod Once
 pub mod Rest
 pub mod RoundTrip
+pub mod Whole

@@ -7,19 +7,20 @@ use Rattle.records.specs.declared.Record.{Record}
 use Rattle.records.specs.declared.Read.{Read}
 use Rattle.records.specs.declared.stream.Piece.{Piece}
 use Rattle.records.specs.Record.{zeros, readAt, roomAt, writtenAt}
-use Rattle.records.specs.Stream.{pieceAt}
+use Rattle.records.specs.Stream.{pieceOf}
 
 -- There is one record of zeros.
 pub zeros-once : (a b : Record) → a ≡ zeros → b ≡ zeros → a ≡ b
 zeros-once a b p q = p ∙ sym q
 
+-- Of the same bytes there is one event at the front.
+pub cut-once : (bytes : List ℕ) (a b : Piece) → a ≡ pieceOf bytes → b ≡ pieceOf bytes → a ≡ b
+cut-once bytes a b p q = p ∙ sym q
+
 module _ (bytes : List ℕ) (at : ℕ) where
-  -- Of the same bytes and place there is one reading, and one event.
+  -- Of the same bytes and place there is one reading.
   pub read-once : (a b : Read) → a ≡ readAt bytes at → b ≡ readAt bytes at → a ≡ b
   read-once a b p q = p ∙ sym q
-
-  pub cut-once : (a b : Piece) → a ≡ pieceAt bytes at → b ≡ pieceAt bytes at → a ≡ b
-  cut-once a b p q = p ∙ sym q
 
   -- Of the same record, buffer and place there is one answer, and one buffer afterwards.
   pub write-once : (r : Record) (a b : Bool) (v w : List ℕ)

@@ -4,17 +4,16 @@ use mathlib.Core.Path.{_≡_, refl, sym, _∙_, ap}
 use mathlib.Core.Bool.{Bool, true, false, cond}
 use mathlib.Core.List.{List}
 use mathlib.Core.Logic.{_⊎_, inl, inr}
-use borrow.Author.Tests.{leb-true, lt-leb}
+use borrow.Author.Tests.{leb-true}
 use native.Mathlib.Omega.{arith}
 use lib.Dec.{leb}
 use lib.ListN.{length, drop, length-drop}
 use lib.Seq.{drop-drop}
-use Rattle.laws.proofs.Tests.{same-leb, both-true, clash}
-use Rattle.records.specs.Record.{recordAt, roomAt, readAt}
+use Rattle.laws.proofs.Tests.{by-cases, same-leb, both-true, clash}
+use Rattle.records.specs.Record.{zeros, recordAt, roomAt, readAt}
 use Rattle.records.specs.declared.Record.{Record}
 use Rattle.records.specs.declared.Read.the-variants.{Whole, Nothing}
-use Rattle.records.specs.Stream.{bearerFirst, bearersIn, pieceOf, pieceAt}
-use Rattle.records.specs.declared.stream.Piece.the-variants.{Short}
+use Rattle.records.specs.Stream.{takesBearers, bearerFirst, bearersIn, eventOf, pieceOf}
 
 -- There is room for a record from a place on where as many bytes are left.
 pub room-left : (at length : ℕ) → leb 32 (length - at) ≡ leb (at + 32) length
@@ -53,11 +52,16 @@ was-short true there e = clash cc
 was-short false there e = refl
 
 -- Where a record was read, the event is that record's.
-pub piece-whole : (bytes : List ℕ) (at : ℕ) (r : Record) → at < length bytes → readAt bytes at ≡ Whole r → pieceAt bytes at ≡ pieceOf r bytes (at + 32)
-piece-whole bytes at r some e =
-    let was = was-whole (roomAt bytes at) (recordAt bytes at) r e in
-    rw (lt-leb (length bytes) at some, was .0, was .1)
+pub piece-whole : (bytes : List ℕ) (r : Record) → readAt bytes 0 ≡ Whole r → pieceOf bytes ≡ eventOf r bytes
+piece-whole bytes r e = let was = was-whole (roomAt bytes 0) (recordAt bytes 0) r e in rw (was .0, was .1)
 
--- Where bytes are left but no record was read, the event is what is left.
-pub piece-short : (bytes : List ℕ) (at : ℕ) → at < length bytes → readAt bytes at ≡ Nothing → pieceAt bytes at ≡ Short (length bytes)
-piece-short bytes at some e = rw (lt-leb (length bytes) at some, was-short (roomAt bytes at) (recordAt bytes at) e)
+-- Where none was read, the event is what is left.
+pub piece-short : (bytes : List ℕ) → readAt bytes 0 ≡ Nothing → pieceOf bytes ≡ record { head = zeros; size = length bytes; whole = false }
+piece-short bytes e = rw (was-short (roomAt bytes 0) (recordAt bytes 0) e)
+
+-- Either way the event's record is what was read, or one of zeros.
+pub head-whole : (bytes : List ℕ) (r : Record) → readAt bytes 0 ≡ Whole r → pieceOf bytes .head ≡ r
+head-whole bytes r e = rw (piece-whole bytes r e) (by-cases (takesBearers r) (λ takes. rw takes) (λ single. rw single))
+
+pub head-short : (bytes : List ℕ) → readAt bytes 0 ≡ Nothing → pieceOf bytes .head ≡ zeros
+head-short bytes e = rw (piece-short bytes e)

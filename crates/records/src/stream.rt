@@ -3,40 +3,55 @@ use crate::Read;
 use crate::Record;
 use crate::SIZE;
 ghost use mathlib.Core.Path.{_≡_};
-ghost use Prim.Native.Nat.{_+_, _*_};
+ghost use Prim.Native.Nat.{_+_, _*_, _≤_};
 ghost use lib.ListN.{drop};
-ghost use Rattle.records.specs.Stream.{takesBearers, bearerFirst, bearersIn, pieceAt};
+ghost use Rattle.records.specs.Stream.{takesBearers, bearerFirst, bearersIn, requestIn, pieceOf};
 
-// What stands at a place of a stream.
-pub enum Piece {
-    // nothing more
-    Nothing,
-    // fewer bytes than a record has: one malformed event; the next place is the end
-    Short(usize),
-    // one record by itself, and where the next event starts
-    Single(Record, usize),
-    // a request, and where the next event starts: its bearer records stand in between
-    Request(Record, usize),
+// The event at the front of some bytes.
+pub struct Piece {
+    // its record; one of zeros, which is malformed, where fewer bytes than a record has are left
+    pub head: Record,
+    // how many bytes it has, the bearer records of a request with it; none at the end of a stream
+    pub size: usize,
+    // whether it is the same whatever comes after these bytes
+    pub whole: bool,
 }
 
-// The event that starts at a place.
-pub fn cut(bytes: &[u8], at: usize) -> Piece
-    ensures { λ r. ⌜ r ≡ pieceAt (now (bytes .entry)) at ⌝ }
+// The event at the front of some bytes: the next one starts after it.
+pub fn cut(bytes: &[u8]) -> Piece
+    ensures { λ r. ⌜ r ≡ pieceOf (now (bytes .entry)) ⌝ }
 {
-    if bytes.len() <= at {
-        return Piece::Nothing;
-    }
-    let read = Record::read(bytes, at);
+    let read = Record::read(bytes, 0);
     match read {
-        Read::Nothing => Piece::Short(bytes.len()),
+        Read::Nothing => Piece {
+            head: Record::zeros(),
+            size: bytes.len(),
+            whole: false,
+        },
         Read::Whole(record) => {
-            let next = at + SIZE;
             if takes_bearers(record) {
-                Piece::Request(record, past_bearers(bytes, next, record.number))
+                let size = past_bearers(bytes, SIZE, record.number);
+                request(record, size, bytes.len())
             } else {
-                Piece::Single(record, next)
+                Piece {
+                    head: record,
+                    size: SIZE,
+                    whole: true,
+                }
             }
         }
+    }
+}
+
+// A request of so many bytes, at the front of so many: it takes no more if it has all its bearers, or another record stands after it.
+fn request(head: Record, size: usize, length: usize) -> Piece
+    requires { ⌜ size ≤ length ⌝ }
+    ensures { λ r. ⌜ r ≡ requestIn head size length ⌝ }
+{
+    Piece {
+        head,
+        size,
+        whole: (size == SIZE + head.number as usize * SIZE) | (SIZE <= length - size),
     }
 }
 

@@ -1,10 +1,15 @@
--- What a judgement of a request's bearers says.
+-- What a judgement of a request's bearers says, and that other events have no use for bearers.
 use Prim.Native.Nat.{ℕ, _/_, _≤_}
 use mathlib.Core.Path.{_≡_, sym}
 use mathlib.Core.Bool.{true, false}
-use mathlib.Core.List.{List}
+use mathlib.Core.List.{List, []}
+use lib.Dec.{eqb}
 use lib.ListN.{length}
 use Rattle.laws.proofs.Tests.{by-cases, both-true, clash, refuted}
+use Rattle.records.specs.declared.Record.{Record}
+use Rattle.fields.specs.Fields.{aRequest, sortOfEvent}
+use Rattle.table.specs.declared.Station.{Station}
+use Rattle.table.specs.Step.{stepOf, verdictsOf}
 use Rattle.bearers.proofs.Admitted.{admitted-le}
 use Rattle.bearers.proofs.Judging.{each-formed}
 use Rattle.bearers.specs.Admission.{countable, judgeable, judgementOf, admissionOf, release8}
@@ -36,3 +41,10 @@ module _ (bytes : List ℕ) (free room : ℕ) where
   units-free t =
       let records = recordsIn (length bytes / 32) bytes in
       admitted-le release8 free (bearersIn (length bytes / 32) bytes) (each-formed records (both-true (countable (length bytes) room) (allBearers records) t .1))
+
+-- An event that is no request takes nothing of what follows it, and leaves the verdict buffer.
+pub alone-step : (s : Station) (e : Record) (bearers : List ℕ) (room : ℕ) → eqb (sortOfEvent e) aRequest ≡ false → stepOf s e [] 0 ≡ stepOf s e bearers room
+alone-step s e bearers room other = rw other
+
+pub alone-verdicts : (s : Station) (e : Record) (bearers buffer : List ℕ) → eqb (sortOfEvent e) aRequest ≡ false → verdictsOf s e bearers buffer ≡ buffer
+alone-verdicts s e bearers buffer other = rw other

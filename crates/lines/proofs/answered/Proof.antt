@@ -1,16 +1,30 @@
--- Each case of the piece is a step of the station; a request's bearers are the bytes between its record and the next event.
-use Prim.Native.Nat.{ℕ, _-_, min, max}
-use mathlib.Core.Path.{_≡_, refl, _∙_, sym}
+-- A record of another kind than a request's has no use for bearers and verdicts, so that a step alone answers it.
+use Prim.Native.Nat.{ℕ, _≤_}
+use mathlib.Core.Path.{_≡_, refl, sym, _∙_}
+use mathlib.Core.Bool.{false}
 use mathlib.Core.List.{List, []}
-use borrow.Author.Tests.{leb-true, leb-false}
-use native.Mathlib.Omega.{arith}
-use lib.Dec.{leb}
-use lib.ListN.{length, take, drop, length-drop, drop-of-length-le}
-use lib.Seq.{take-all, take-nil}
-use Rattle.laws.proofs.Tests.{by-cases}
+use borrow.Author.Tests.{leb-true, ne-eqb}
+use lib.Dec.{eqb}
+use lib.ListN.{length, drop}
+use Rattle.records.specs.Record.{zeros, recordAt, roomAt, readAt}
+use Rattle.records.specs.Stream.{pieceOf}
+use Rattle.records.specs.declared.Record.{Record}
+use Rattle.records.specs.declared.Read.the-variants.{Whole}
+use Rattle.records.proofs.Rest.{was-whole, head-whole, head-short}
+use Rattle.table.specs.declared.Answer.{Answer}
+use Rattle.table.specs.declared.Station.{Station}
+use Rattle.table.specs.Reached.{Reached}
+use Rattle.table.specs.Step.{stepOf}
+use Rattle.table.proofs.Requests.{alone-step, alone-verdicts}
+use Rattle.fields.proofs.Sorts.{no-request}
+use Rattle.lines.specs.Lines.{answerTo, verdictsTo}
+use Rattle.lines.proofs.Turning.{part}
 use borrow.Author.Needs.{needs}
 use Rattle.lines.proofs.answered.Statement.{statement}
 use Rattle.lines.proofs.answered.Tie as tie
+
+read-requires : tie.Need-read-requires
+read-requires c κs = search needs
 
 enum-told : tie.Need-enum-told
 enum-told c = search needs
@@ -21,38 +35,25 @@ zeros-requires c κs = search needs
 step-requires : tie.Need-step-requires
 step-requires c κs = search needs
 
-enum-told-2 : tie.Need-enum-told-2
-enum-told-2 c = search needs
+enum-known-read : tie.Need-enum-known-read
+enum-known-read c = search needs
 
-zeros-requires-2 : tie.Need-zeros-requires-2
-zeros-requires-2 c κs = search needs
+-- what was read, as seen from the place where the record is known
+module _ (c : tie.After-read2) where
+  abbrev event : List ℕ
+  event = c .before .before .before .before .before .args .event .now
 
-step-requires-2 : tie.Need-step-requires-2
-step-requires-2 c κs = search needs
+  given : readAt event 0 ≡ Whole (c .read2 .given .0 .0)
+  given = sym (c .before .before .read .ensures) ∙ c .read2 .given .1
 
-enum-known-piece : tie.Need-enum-known-piece
-enum-known-piece c = search needs
-
-step-requires-3 : tie.Need-step-requires-3
-step-requires-3 c κs = search needs
-
-enum-known-piece-2 : tie.Need-enum-known-piece-2
-enum-known-piece-2 c = search needs
-
-least-requires : tie.Need-least-requires
-least-requires c κs = search needs
-
-least-requires-2 : tie.Need-least-requires-2
-least-requires-2 c κs = search needs
-
-greatest-requires : tie.Need-greatest-requires
-greatest-requires c κs = search needs
+  long : 32 ≤ length event
+  long = leb-true 32 (length event) (was-whole (roomAt event 0) (recordAt event 0) _ given .0)
 
 sub-request : tie.Need-sub-request
-sub-request c = search needs
+sub-request c = long (c .before .before .before)
 
 part-request-start : tie.Need-part-request-start
-part-request-start c = search needs
+part-request-start c = long (c .before .before .before)
 
 part-request-end : tie.Need-part-request-end
 part-request-end c = search needs
@@ -60,73 +61,55 @@ part-request-end c = search needs
 request-requires : tie.Need-request-requires
 request-requires c κs = search needs
 
--- the part between a record and the next event, also where that is no place of the bytes
-between : (bytes : List ℕ) (next from end to : ℕ) → from ≡ min 32 (length bytes) → end ≡ min next (length bytes) → to ≡ max from end
-    → take (to - from) (drop from bytes) ≡ take (next - 32) (drop 32 bytes)
-between bytes next from end to f e t =
-    by-cases (leb 32 (length bytes))
-    (λ u.
-    let long = leb-true 32 (length bytes) u in
-    let first : from ≡ 32 = omega arith in
-    by-cases (leb next (length bytes))
-    (λ v. let size : to - from ≡ next - 32 = omega (arith, leb-true next (length bytes) v) in rw (size, first))
-    (λ v.
-    let beyond = leb-false next (length bytes) v in
-    rw first
-    (take-all (to - 32) (drop 32 bytes) (omega (arith, length-drop 32 bytes))
-    ∙ sym (take-all (next - 32) (drop 32 bytes) (omega (arith, length-drop 32 bytes))))))
-    (λ u.
-    let short = leb-false 32 (length bytes) u in
-    let here : drop from bytes ≡ [] = drop-of-length-le bytes {i = from} (omega arith) in
-    let there : drop 32 bytes ≡ [] = drop-of-length-le bytes {i = 32} (omega arith) in
-    rw (here, there) (take-nil (to - from) ∙ sym (take-nil (next - 32))))
-
-returns : tie.Need-returns
-returns c = rw (c .before .before .enum-told .given .1) (rw (c .before .zeros .ensures) at (c .step .ensures .0), refl, c .step .ensures .1)
-
-returns-2 : tie.Need-returns-2
-returns-2 c = rw (c .before .before .enum-told2 .given .1) (rw (c .before .zeros2 .ensures) at (c .step2 .ensures .0), refl, c .step2 .ensures .1)
-
-returns-3 : tie.Need-returns-3
-returns-3 c = rw (c .before .before .piece .given .1) (c .step3 .ensures .0, refl, c .step3 .ensures .1)
-
 same-length : tie.Need-same-length
 same-length c = search needs
 
-returns-4 : tie.Need-returns-4
-returns-4 c =
-    let request = c .before .before .request in
-    let piece = c .before .before .before .before .before .before .before .before .before .piece2 .given in
-    let same =
-    between (c .before .before .before .before .before .before .before .before .before .before .before .before .before .args .bytes .now) (piece .0 .1 .0) _ _ _
-    (c .before .before .before .before .before .before .before .least .ensures)
-    (c .before .before .before .before .before .before .least2 .ensures)
-    (c .before .before .before .before .before .greatest .ensures)
-    in
-    rw (piece .1) (rw same at (request .ensures .0), rw same at (request .ensures .1), request .ensures .2)
+returns : tie.Need-returns
+returns c =
+    let known = c .before .before .before .before .before .before .before .before in
+    let ensures = c .before .before .request .ensures in
+    rw (head-whole (event known) _ (given known), ← part (event known) 32) ensures
+
+step-requires-2 : tie.Need-step-requires-2
+step-requires-2 c κs = search needs
+
+-- the answer to a record that is no request
+alone : (s : Station) (event buffer : List ℕ) (r : Record) (a : Answer) → pieceOf event .head ≡ r → eqb (r .kind) 1 ≡ false → a ≡ stepOf s r [] 0 → Reached (a .station)
+    → (a ≡ answerTo (length buffer) s event) × (buffer ≡ verdictsTo s event buffer) × Reached (a .station)
+alone s event buffer r a head other answer reached =
+    let plain = no-request r other in
+    rw head (answer ∙ alone-step s r (drop 32 event) (length buffer) plain, sym (alone-verdicts s r (drop 32 event) buffer plain), reached)
+
+returns-2 : tie.Need-returns-2
+returns-2 c =
+    let a = c .before .before .before .before .before .before .before .args in
+    let read = c .before .before .before .before .read .ensures in
+    alone (a .station) (a .event .now) (a .verdicts .now) zeros (c .step .result) (head-short (a .event .now) (sym read ∙ c .before .before .enum-told .given .1)) refl
+    (rw (c .before .zeros .ensures) at (c .step .ensures .0)) (c .step .ensures .1)
+
+returns-3 : tie.Need-returns-3
+returns-3 c =
+    let known = c .before .before .before .before in
+    let a = known .before .before .before .before .before .args in
+    let r = known .read2 .given .0 .0 in
+    alone (a .station) (a .event .now) (a .verdicts .now) r (c .step2 .result) (head-whole (event known) r (given known)) (ne-eqb (r .kind) 1 (c .before .if1 .left))
+    (c .step2 .ensures .0) (c .step2 .ensures .1)
 
 pub answered-spec : {M : Type 1} → statement M
 answered-spec =
     tie.close
     (tie.spec
+    read-requires
     enum-told
     zeros-requires
     step-requires
-    enum-told-2
-    zeros-requires-2
-    step-requires-2
-    enum-known-piece
-    step-requires-3
-    enum-known-piece-2
-    least-requires
-    least-requires-2
-    greatest-requires
+    enum-known-read
     sub-request
     part-request-start
     part-request-end
     request-requires
-    returns
-    returns-2
-    returns-3
     same-length
-    returns-4)
+    returns
+    step-requires-2
+    returns-2
+    returns-3)

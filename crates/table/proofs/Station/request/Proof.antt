@@ -1,9 +1,7 @@
 -- A request takes its bearers; any other event is a step.
 use borrow.Author.Tests.{ne-eqb}
 use mathlib.Core.Path.{_≡_, sym, _∙_}
-use Prim.Native.Nat.{ℕ}
 use mathlib.Core.Bool.{true, false}
-use mathlib.Core.List.{List, []}
 use native.Mathlib.Omega.{arith}
 use lib.Dec.{eqb}
 use lib.ListN.{length}
@@ -13,9 +11,9 @@ use Rattle.records.specs.declared.Record.{Record}
 use Rattle.fields.specs.Fields.{aRequest, sortOfEvent, wellFormed}
 use Rattle.fields.proofs.Forms.{number-within}
 use Rattle.table.specs.declared.Answer.{Answer}
-use Rattle.table.specs.declared.Station.{Station}
 use Rattle.table.specs.Reached.{Reached}
 use Rattle.table.specs.Step.{stepOf}
+use Rattle.table.proofs.Requests.{alone-step}
 use Rattle.table.proofs.Reaching.{still-reached}
 use Rattle.table.proofs.Soundness.{sound}
 use borrow.Author.Needs.{needs}
@@ -25,10 +23,6 @@ use Rattle.table.proofs.Station.request.Tie as tie
 -- an event that has the sort of a request is well formed
 formed : (e : Record) → sortOfEvent e ≡ aRequest → wellFormed e ≡ true
 formed e is = by-cases (wellFormed e) (λ t. t) (λ t. absurd (omega (arith, rw t at is)))
-
--- what is no request takes nothing of what follows it
-alone : (s : Station) (e : Record) (bearers : List ℕ) (room : ℕ) → eqb (sortOfEvent e) aRequest ≡ false → stepOf s e [] 0 ≡ stepOf s e bearers room
-alone s e bearers room other = rw other
 
 -- the answer has a station that a fresh one reaches
 reached : (c : tie.Start) (a : Answer) → a ≡ stepOf (c .args .self) (c .args .e) (now (c .args .bearers)) (length (now (c .args .verdicts))) → Reached (a .station)
@@ -59,7 +53,7 @@ returns-2 : tie.Need-returns-2
 returns-2 c =
     let a = c .before .before .before .before .before .args in
     let other : eqb (sortOfEvent (a .e)) aRequest ≡ false = rw (← c .before .before .sort-of .ensures) (ne-eqb (c .before .before .sort-of .result) aRequest (c .before .if1 .left)) in
-    (c .step .ensures .0 ∙ alone (a .self) (a .e) (now (a .bearers)) (length (now (a .verdicts))) other, rw other, c .step .ensures .1)
+    (c .step .ensures .0 ∙ alone-step (a .self) (a .e) (now (a .bearers)) (length (now (a .verdicts))) other, rw other, c .step .ensures .1)
 
 pub request-spec : {M : Type 1} → statement M
 request-spec = tie.close (tie.spec sort-of-requires requested-requires same-length returns step-requires returns-2)
