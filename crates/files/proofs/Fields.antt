@@ -9,7 +9,7 @@ use lib.Dec.{ltb, eqb}
 use lib.ListN.{length, getD, drop, replicate, length-append}
 use lib.Seq.{set-at}
 use Rattle.laws.proofs.Tests.{both-true, by-cases, below-at}
-use Rattle.lines.specs.Text.{size, digits}
+use Rattle.buffers.specs.Digits.{size, digits}
 use Rattle.records.specs.Record.{InRange}
 use Rattle.records.specs.declared.Record.{Record}
 use Rattle.text.specs.declared.compose.Word.{Word}

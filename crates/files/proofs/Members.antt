@@ -11,7 +11,7 @@ use lib.Seq.{set-at, getD-at}
 use Rattle.laws.proofs.Tests.{by-cases}
 use Rattle.sets.specs.Sets.{member, add}
 use Rattle.sets.proofs.Membership.{member-add, member-none, member-beyond, add-fits, same-members}
-use Rattle.lines.specs.Text.{size, digits}
+use Rattle.buffers.specs.Digits.{size, digits}
 use Rattle.text.specs.Shown.{numberText, idText, idsText}
 use Rattle.text.specs.Composed.{isSet, limits, Made}
 use Rattle.files.proofs.Leading.{resting}

@@ -8,7 +8,7 @@ use borrow.Author.Tests.{le-leb, eq-eqb, ne-eqb, leb-false, eqb-true, eqb-false,
 use lib.Dec.{leb, eqb}
 use lib.ListN.{getD, set}
 use Rattle.laws.proofs.Tests.{both-true, by-cases, on-true, below, below-at}
-use Rattle.lines.specs.Text.{sizeIn, size, digits}
+use Rattle.buffers.specs.Digits.{sizeIn, size, digits}
 use Rattle.text.specs.declared.compose.Word.{Word}
 use Rattle.text.specs.Words.{isSame, placeIn, placeOf, trimmed, wordAt}
 use Rattle.text.specs.Composed.{isGap, takesDigit, longer, emptyWord, pushed, blankValues, limits, fields, added, nextField, put, begun, chosen, mayBegin, Made, stage, understood, settle, step}

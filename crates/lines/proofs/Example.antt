@@ -11,7 +11,7 @@ use Rattle.sets.specs.Sets as sets
 use Rattle.handover.specs.Numbers.{anyOf, issueFrom}
 use Rattle.table.specs.Table.{findFrom, dueFrom}
 use Rattle.lines.specs.Lines.{newRun, linesIn, linesOf}
-use Rattle.lines.specs.Text.{sizeIn, digits, spaced}
+use Rattle.buffers.specs.Digits.{sizeIn, digits, spaced}
 
 abbrev pub input : List ℕ
 input =

@@ -1,9 +1,7 @@
 pub mod Blocks
-pub mod Digits
 pub mod Example
 pub mod Going
+pub mod Longest
 pub mod Once
-pub mod Reading
 pub mod Turning
 pub mod Within
-pub mod Writing

@@ -9,8 +9,7 @@ use Rattle.table.specs.declared.Answer.{Answer}
 use Rattle.table.specs.declared.Station.{Station}
 use Rattle.lines.specs.declared.Progress.{Progress}
 use Rattle.lines.specs.declared.Run.{Run}
-use Rattle.lines.specs.Lines.{answerTo, verdictsTo, newRun, workOf, progress, leftIn}
-use Rattle.lines.specs.Text.{size, digits}
+use Rattle.lines.specs.Lines.{answerTo, verdictsTo, newRun, workOf, progress}
 
 -- There is one run at the start.
 pub new-once : (a b : Run) → a ≡ newRun → b ≡ newRun → a ≡ b
@@ -23,23 +22,9 @@ pub answer-once : (run : Run) (bytes : List ℕ) (ended : Bool) (out : List ℕ)
     → (a ≡ b) × (v ≡ w)
 answer-once run bytes ended out a b v w p q = (p .0 ∙ sym (q .0), p .1 ∙ sym (q .1))
 
--- Of the same block and numbers there is one answer, and one block afterwards.
-pub carry-once : (taken held : ℕ) (block : List ℕ) (a b : ℕ) (v w : List ℕ)
-    → (a ≡ length (leftIn taken held block)) × (v ≡ sets block 0 (leftIn taken held block))
-    → (b ≡ length (leftIn taken held block)) × (w ≡ sets block 0 (leftIn taken held block))
-    → (a ≡ b) × (v ≡ w)
-carry-once taken held block a b v w p q = (p .0 ∙ sym (q .0), p .1 ∙ sym (q .1))
-
 -- Of the same station, event and buffer there is one answer, and one buffer afterwards.
 pub answered-once : (station : Station) (event verdicts : List ℕ) (a b : Answer) (v w : List ℕ)
     → (a ≡ answerTo (length verdicts) station event) × (v ≡ verdictsTo station event verdicts)
     → (b ≡ answerTo (length verdicts) station event) × (w ≡ verdictsTo station event verdicts)
     → (a ≡ b) × (v ≡ w)
 answered-once station event verdicts a b v w p q = (p .0 ∙ sym (q .0), p .1 ∙ sym (q .1))
-
--- A number has one count of digits, and of the same number, count, buffer and place there is one buffer afterwards.
-pub digits-once : (n a b : ℕ) → a ≡ size n → b ≡ size n → a ≡ b
-digits-once n a b p q = p ∙ sym q
-
-pub spell-once : (n k at : ℕ) (out v w : List ℕ) → v ≡ sets out at (digits k n) → w ≡ sets out at (digits k n) → v ≡ w
-spell-once n k at out v w p q = p ∙ sym q

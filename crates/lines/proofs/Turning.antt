@@ -18,9 +18,9 @@ use Rattle.table.specs.declared.Station.{Station}
 use Rattle.table.specs.Reached.{Reached}
 use Rattle.lines.specs.declared.Run.{Run}
 use Rattle.lines.specs.Lines.{lineOf, isWhole, answerTo, Work, goesOn, onward, workOn, workOf, progress}
-use Rattle.lines.proofs.Digits.{line-most}
+use Rattle.lines.proofs.Longest.{line-most}
 use Rattle.lines.proofs.Going.{some-byte, goes, stops}
-use Rattle.lines.proofs.Writing.{joined}
+use Rattle.buffers.proofs.Writing.{joined}
 
 -- the part of a block from a place on
 pub part : (bytes : List ℕ) (at : ℕ) → take (length bytes - at) (drop at bytes) ≡ drop at bytes

@@ -6,14 +6,14 @@ use mathlib.Core.List.{List}
 use borrow.Author.Tests.{leb-true}
 use native.Mathlib.Omega.{arith}
 use lib.Dec.{leb}
-use lib.ListN.{length, take, drop, length-append, length-take, length-drop}
+use lib.ListN.{length, drop, length-append, length-drop}
 use Rattle.laws.proofs.Tests.{by-cases, both-true}
 use Rattle.records.specs.Stream.{pieceOf, firstOf}
 use Rattle.records.proofs.Cutting as cutting
 use Rattle.lines.specs.declared.Progress.{Progress}
 use Rattle.lines.specs.declared.Run.{Run}
-use Rattle.lines.specs.Lines.{isWhole, answerTo, lineOf, Work, beginning, goesOn, onward, workOn, workOf, progress, leftIn}
-use Rattle.lines.proofs.Digits.{line-most}
+use Rattle.lines.specs.Lines.{isWhole, answerTo, lineOf, Work, beginning, goesOn, onward, workOn, workOf, progress}
+use Rattle.lines.proofs.Longest.{line-most}
 use Rattle.lines.proofs.Going.{goes, stops}
 
 module _ (ended : Bool) (room : ℕ) (bytes : List ℕ) where
@@ -49,7 +49,3 @@ pub progress-within : (ended : Bool) (out bytes : List ℕ) (run : Run) (p : Pro
 progress-within ended out bytes run p e =
     let w = work-within ended (length out) bytes run in
     subst (λ (q : Progress). (q .taken ≤ length bytes) × (q .written ≤ length out)) (sym e) (w .taken, w .written)
-
--- What is left of a block is no longer than it.
-pub left-within : (taken held : ℕ) (block : List ℕ) → length (leftIn taken held block) ≤ length block
-left-within taken held block = omega (arith, length-drop taken (take held block), length-take held block)

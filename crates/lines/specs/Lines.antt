@@ -4,6 +4,7 @@ use mathlib.Core.Bool.{Bool, cond, _&&_, _||_}
 use mathlib.Core.List.{List, [], _∷_, _++_}
 use lib.Dec.{leb, ltb}
 use lib.ListN.{length, take, drop}
+use Rattle.buffers.specs.Digits.{cell, spaced}
 use Rattle.records.specs.Stream.{pieceOf, firstOf}
 use Rattle.records.specs.declared.stream.Piece.{Piece}
 use Rattle.table.specs.declared.Answer.{Answer}
@@ -13,7 +14,6 @@ use Rattle.table.specs.declared.Station.{Station}
 use Rattle.table.specs.Step.{stepOf, verdictsOf, bornOf}
 use Rattle.lines.specs.declared.Run.{Run}
 use Rattle.lines.specs.declared.Progress.{Progress}
-use Rattle.lines.specs.Text.{cell, spaced}
 
 -- "place from 1, reply, then kind, neighbour, Old, New, first and second set of the message sent (six zeros if none), then ending"
 abbrev pub firstEight : ℕ → Outcome → List ℕ
@@ -94,10 +94,6 @@ workOf ended room bytes run = workOn (length bytes) ended room bytes (beginning 
 
 abbrev pub progress : Work → Progress
 progress w = record { run = w .run; taken = w .taken; written = length (w .text) }
-
--- what is left of the bytes that a block holds
-abbrev pub leftIn : ℕ → ℕ → List ℕ → List ℕ
-leftIn taken held block = drop taken (take held block)
 
 -- the lines of a whole stream, of at most so many events
 unfoldable pub linesIn : ℕ → Run → List ℕ → List ℕ

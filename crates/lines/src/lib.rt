@@ -1,8 +1,6 @@
 // Events in, lines out: how the bytes of a stream become the lines of the station program.
-pub mod text;
-
-use crate::text::cell;
-use crate::text::cells;
+use buffers::digits::cell;
+use buffers::digits::cells;
 use records::Read;
 use records::Record;
 use records::SIZE;
@@ -14,11 +12,11 @@ use table::Outcome;
 use table::Settings;
 use table::Station;
 ghost use mathlib.Core.Path.{_≡_};
-ghost use Prim.Native.Nat.{_+_, _≤_, min};
+ghost use Prim.Native.Nat.{_+_, _≤_};
 ghost use lib.ListN.{length};
 ghost use lib.Seq.{sets};
 ghost use Rattle.table.specs.Reached.{Reached};
-ghost use Rattle.lines.specs.Lines.{lineOf, isWhole, answerTo, verdictsTo, newRun, workOf, progress, leftIn};
+ghost use Rattle.lines.specs.Lines.{lineOf, isWhole, answerTo, verdictsTo, newRun, workOf, progress};
 
 // The longest line: nine numbers of at most 20 digits, and a byte after each.
 pub const LONGEST: usize = 189;
@@ -82,27 +80,6 @@ pub fn answered(station: Station, event: &[u8], verdicts: &mut [u8]) -> Answer
             station.step(r)
         }
     }
-}
-
-// Carries what is left of the bytes held in a block, after those taken, to its front, and answers how many these are.
-pub fn carry(block: &mut [u8], taken: usize, held: usize) -> usize
-    ensures { λ r. ⌜ (r ≡ length (leftIn taken held (now (block .entry)))) × (now (block .exit) ≡ sets (now (block .entry)) 0 (leftIn taken held (now (block .entry)))) ⌝ }
-{
-    let end = least(held, block.len());
-    if end <= taken {
-        return 0;
-    }
-    let left = end - taken;
-    for i in 0..left {
-        block[i] = block[taken + i];
-    }
-    left
-}
-
-fn least(a: usize, b: usize) -> usize
-    ensures { λ r. ⌜ r ≡ min a b ⌝ }
-{
-    if a < b { a } else { b }
 }
 
 impl Run {

@@ -1,8 +1,8 @@
 // The show program: event records from standard input, one line of words per event to standard output.
+use buffers::carry;
 use libc::STDERR_FILENO;
 use libc::STDIN_FILENO;
 use libc::STDOUT_FILENO;
-use lines::carry;
 use text::show::Sheet;
 
 // A run between two reads: how many bytes the input buffer holds, and whether there is more to do.

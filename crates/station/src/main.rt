@@ -1,9 +1,9 @@
 // The station program: event records from standard input, one line per event to standard output.
+use buffers::carry;
 use libc::STDERR_FILENO;
 use libc::STDIN_FILENO;
 use libc::STDOUT_FILENO;
 use lines::Run;
-use lines::carry;
 ghost use Prim.Native.Nat.{_≤_};
 ghost use lib.ListN.{length};
 ghost use Rattle.station.specs.Stages.{Sound};

@@ -9,9 +9,9 @@ use native.Mathlib.Omega.{arith}
 use borrow.Author.Tests.{eq-eqb, ne-eqb}
 use lib.ListN.{length, length-append, set, drop, getD, take, drop-of-length-le}
 use lib.Seq.{sets, drop-cons}
-use Rattle.lines.specs.Text.{size, digits}
-use Rattle.lines.proofs.Digits.{size-most, length-digits}
-use Rattle.lines.proofs.Writing.{sets-append, joined}
+use Rattle.buffers.specs.Digits.{size, digits}
+use Rattle.buffers.proofs.Lengths.{size-most, length-digits}
+use Rattle.buffers.proofs.Writing.{sets-append, joined}
 use Rattle.text.specs.Words.{wordAt}
 use Rattle.text.specs.declared.show.Sheet.{Sheet}
 use Rattle.text.specs.declared.show.Shown.{Shown}

@@ -5,7 +5,7 @@ use mathlib.Core.List.{List, [], _∷_, _++_}
 use lib.Dec.{leb, eqb}
 use lib.ListN.{length, take, drop}
 use Rattle.sets.specs.Sets.{member}
-use Rattle.lines.specs.Text.{size, digits}
+use Rattle.buffers.specs.Digits.{size, digits}
 use Rattle.records.specs.Record.{recordOf}
 use Rattle.records.specs.Stream.{takesBearers}
 use Rattle.records.specs.declared.Record.{Record}

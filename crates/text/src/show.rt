@@ -1,8 +1,8 @@
 // Records in, lines out.
 use crate::compose::is_set;
 use crate::words::write_word;
-use lines::text::size;
-use lines::text::spell;
+use buffers::digits::size;
+use buffers::digits::spell;
 use records::Read;
 use records::Record;
 use sets::member;

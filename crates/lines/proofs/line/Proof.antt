@@ -1,9 +1,9 @@
 -- Eight numbers with a space after each, and the last with a line feed.
 use native.Mathlib.Omega.{arith}
 use Rattle.lines.specs.Lines.{firstEight}
-use Rattle.lines.specs.Text.{cell, spaced}
-use Rattle.lines.proofs.Digits.{spaced-most}
-use Rattle.lines.proofs.Writing.{joined}
+use Rattle.buffers.specs.Digits.{cell, spaced}
+use Rattle.buffers.proofs.Lengths.{spaced-most}
+use Rattle.buffers.proofs.Writing.{joined}
 use borrow.Author.Needs.{needs}
 use Rattle.lines.proofs.line.Statement.{statement}
 use Rattle.lines.proofs.line.Tie as tie

@@ -3,7 +3,8 @@ use Prim.Native.Nat.{_≤_}
 use mathlib.Core.Path.{sym}
 use lib.ListN.{length, take}
 use lib.Seq.{length-take-le}
-use Rattle.lines.proofs.Within.{progress-within, left-within}
+use Rattle.buffers.proofs.Left.{left-within}
+use Rattle.lines.proofs.Within.{progress-within}
 use borrow.Author.Needs.{needs}
 use Rattle.station.proofs.answer.Statement.{statement}
 use Rattle.station.proofs.answer.Tie as tie

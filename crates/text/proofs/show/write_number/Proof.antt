@@ -3,7 +3,7 @@ use mathlib.Core.Path.{_∙_}
 use native.Mathlib.Omega.{arith}
 use lib.ListN.{length-set}
 use Rattle.text.proofs.Writing.{numbered}
-use Rattle.lines.proofs.Digits.{size-most}
+use Rattle.buffers.proofs.Lengths.{size-most}
 use borrow.Author.Needs.{needs}
 use Rattle.text.proofs.show.write_number.Statement.{statement}
 use Rattle.text.proofs.show.write_number.Tie as tie

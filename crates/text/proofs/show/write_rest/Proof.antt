@@ -4,7 +4,7 @@ use mathlib.Core.List.{[], _∷_}
 use native.Mathlib.Omega.{arith}
 use borrow.Author.Tests.{eq-eqb, ne-eqb}
 use lib.ListN.{length}
-use Rattle.lines.proofs.Writing.{joined}
+use Rattle.buffers.proofs.Writing.{joined}
 use Rattle.text.specs.Shown.{rawText}
 use borrow.Author.Needs.{needs}
 use Rattle.text.proofs.show.write_rest.Statement.{statement}

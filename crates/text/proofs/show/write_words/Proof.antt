@@ -1,6 +1,6 @@
 -- The word of its kind, and its fields after it.
 use native.Mathlib.Omega.{arith}
-use Rattle.lines.proofs.Writing.{joined}
+use Rattle.buffers.proofs.Writing.{joined}
 use lib.ListN.{drop}
 use Rattle.text.specs.Words.{wordAt}
 use Rattle.text.specs.Shown.{fieldsText, valuesOf}

@@ -6,7 +6,7 @@ use mathlib.Core.List.{List}
 use native.Mathlib.Omega.{arith}
 use borrow.Author.Tests.{leb-true, not-true, not-false}
 use Rattle.laws.proofs.Tests.{both-true}
-use Rattle.lines.proofs.Writing.{joined}
+use Rattle.buffers.proofs.Writing.{joined}
 use lib.Dec.{leb}
 use lib.ListN.{length}
 use Rattle.text.specs.Shown.{endText, restText}

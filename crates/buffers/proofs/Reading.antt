@@ -8,8 +8,8 @@ use lib.Dec.{leb, eqb}
 use lib.ListN.{getD, List·getD-append}
 use lib.Seq.{getD-at}
 use Rattle.laws.proofs.Tests.{by-cases}
-use Rattle.lines.specs.Text.{sizeIn, size, digits}
-use Rattle.lines.proofs.Digits.{one-digit, more-digits, some-digit, length-digits}
+use Rattle.buffers.specs.Digits.{sizeIn, size, digits}
+use Rattle.buffers.proofs.Lengths.{one-digit, more-digits, some-digit, length-digits}
 
 -- the number that digits in ASCII stand for, after so much was read
 unfoldable pub value : ℕ → List ℕ → ℕ

@@ -3,12 +3,12 @@ use Prim.Native.Nat.{_+_, _≤_}
 use mathlib.Core.Path.{refl}
 use mathlib.Core.List.{[], _∷_}
 use native.Mathlib.Omega.{arith}
-use Rattle.lines.specs.Text.{size as sizeOf, digits}
-use Rattle.lines.proofs.Digits.{size-most, length-digits}
-use Rattle.lines.proofs.Writing.{joined}
+use Rattle.buffers.specs.Digits.{size as sizeOf, digits}
+use Rattle.buffers.proofs.Lengths.{size-most, length-digits}
+use Rattle.buffers.proofs.Writing.{joined}
 use borrow.Author.Needs.{needs}
-use Rattle.lines.proofs.text.cell.Statement.{statement}
-use Rattle.lines.proofs.text.cell.Tie as tie
+use Rattle.buffers.proofs.digits.cell.Statement.{statement}
+use Rattle.buffers.proofs.digits.cell.Tie as tie
 
 size-requires : tie.Need-size-requires
 size-requires c κs = search needs

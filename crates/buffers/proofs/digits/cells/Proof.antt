@@ -6,11 +6,11 @@ use native.Mathlib.Numerals.{add-one}
 use native.Mathlib.Omega.{arith}
 use lib.ListN.{length, getD, drop, drop-of-length-le}
 use lib.Seq.{sets, drop-cons}
-use Rattle.lines.specs.Text.{cell, spaced}
-use Rattle.lines.proofs.Digits.{cell-most}
-use Rattle.lines.proofs.Writing.{joined}
-use Rattle.lines.proofs.text.cells.Statement.{statement}
-use Rattle.lines.proofs.text.cells.Tie as tie
+use Rattle.buffers.specs.Digits.{cell, spaced}
+use Rattle.buffers.proofs.Lengths.{cell-most}
+use Rattle.buffers.proofs.Writing.{joined}
+use Rattle.buffers.proofs.digits.cells.Statement.{statement}
+use Rattle.buffers.proofs.digits.cells.Tie as tie
 
 -- so far: each number took at most 21 bytes
 abbrev Inv-loop : tie.InvT-loop

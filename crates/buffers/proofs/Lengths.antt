@@ -7,9 +7,7 @@ use native.Mathlib.Omega.{arith}
 use lib.Dec.{leb}
 use lib.ListN.{length, length-append}
 use Rattle.laws.proofs.Tests.{by-cases}
-use Rattle.table.specs.declared.Outcome.{Outcome}
-use Rattle.lines.specs.Lines.{firstEight, lineOf}
-use Rattle.lines.specs.Text.{sizeIn, size, digits, cell, spaced}
+use Rattle.buffers.specs.Digits.{sizeIn, size, digits, cell, spaced}
 
 -- A number below ten has one digit.
 pub one-digit : (most n : ℕ) → n < 10 → sizeIn most n ≡ 1
@@ -46,9 +44,3 @@ pub spaced-most : (ns : List ℕ) → length (spaced ns) ≤ 21 * length ns
 unfolding spaced
 spaced-most [] = omega arith
 spaced-most (n ∷ ns) = rw (length-append (cell n 32) (spaced ns)) (omega (arith, cell-most n 32, spaced-most ns))
-
--- A line takes at most 189 bytes.
-pub line-most : (place : ℕ) (o : Outcome) → length (lineOf place o) ≤ 189
-line-most place o =
-    rw (length-append (spaced (firstEight place o)) (cell (o .ending) 10))
-    (omega (arith, spaced-most (firstEight place o), cell-most (o .ending) 10))

@@ -6,9 +6,9 @@ use native.Mathlib.Numerals.{add-one}
 use native.Mathlib.Omega.{arith}
 use lib.ListN.{length, getD, set, take, drop, length-take, length-drop, length-set, drop-of-length-le}
 use lib.Seq.{sets, getD-take, getD-drop, drop-drop, drop-cons, drop-set-lt}
-use Rattle.lines.specs.Lines.{leftIn}
-use Rattle.lines.proofs.carry.Statement.{statement}
-use Rattle.lines.proofs.carry.Tie as tie
+use Rattle.buffers.specs.Blocks.{leftIn}
+use Rattle.buffers.proofs.carry.Statement.{statement}
+use Rattle.buffers.proofs.carry.Tie as tie
 
 abbrev Inv-loop : tie.InvT-loop
 Inv-loop block₀ taken held end left i₀ block i =

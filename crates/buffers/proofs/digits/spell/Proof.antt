@@ -5,11 +5,11 @@ use mathlib.Core.List.{List}
 use native.Mathlib.Omega.{arith}
 use lib.ListN.{length, set, length-set}
 use lib.Seq.{sets}
-use Rattle.lines.specs.Text.{digits}
-use Rattle.lines.proofs.Digits.{length-digits}
-use Rattle.lines.proofs.Writing.{last-first}
-use Rattle.lines.proofs.text.spell.Statement.{statement}
-use Rattle.lines.proofs.text.spell.Tie as tie
+use Rattle.buffers.specs.Digits.{digits}
+use Rattle.buffers.proofs.Lengths.{length-digits}
+use Rattle.buffers.proofs.Writing.{last-first}
+use Rattle.buffers.proofs.digits.spell.Statement.{statement}
+use Rattle.buffers.proofs.digits.spell.Tie as tie
 
 abbrev Inv-loop : tie.InvT-loop
 Inv-loop n k out₀ at i₀ rest₀ out i rest = (i ≤ k) × (length out ≡ length out₀) × (sets out at (digits i rest) ≡ sets out₀ at (digits k n))

@@ -4,7 +4,7 @@ ghost use Prim.Native.Nat.{_+_, _*_, _≤_};
 ghost use mathlib.Core.List.{_++_};
 ghost use lib.ListN.{length};
 ghost use lib.Seq.{sets};
-ghost use Rattle.lines.specs.Text.{size as sizeOf, digits, cell as cellOf, spaced};
+ghost use Rattle.buffers.specs.Digits.{size as sizeOf, digits, cell as cellOf, spaced};
 
 // How many digits a number has.
 pub fn size(n: u64) -> usize
@@ -34,7 +34,7 @@ pub fn spell(n: u64, k: usize, out: &mut [u8], at: usize)
 }
 
 // Writes a number and the byte after it from a place on, and answers the next place. 21 bytes are room enough.
-pub(crate) fn cell(n: u64, after: u8, out: &mut [u8], at: usize) -> usize
+pub fn cell(n: u64, after: u8, out: &mut [u8], at: usize) -> usize
     requires { ⌜ at + 21 ≤ length (now out) ⌝ }
     ensures { λ r. ⌜ (r ≡ at + length (cellOf n after)) × (now (out .exit) ≡ sets (now (out .entry)) at (cellOf n after)) ⌝ }
 {
@@ -46,7 +46,7 @@ pub(crate) fn cell(n: u64, after: u8, out: &mut [u8], at: usize) -> usize
 }
 
 // Writes numbers with a space after each from a place on, and answers the next place.
-pub(crate) fn cells(numbers: [u64; 8], out: &mut [u8], at: usize) -> usize
+pub fn cells(numbers: [u64; 8], out: &mut [u8], at: usize) -> usize
     requires { ⌜ (length numbers ≡ 8) × (at + 168 ≤ length (now out)) ⌝ }
     ensures { λ r. ⌜ (r ≡ at + length (spaced numbers)) × (now (out .exit) ≡ sets (now (out .entry)) at (spaced numbers)) ⌝ }
 {

@@ -2,10 +2,10 @@
 use Prim.Native.Nat.{ℕ, zero, suc, _+_, _/_, _^_, _≤_, _<_}
 use mathlib.Core.Path.{_≡_, refl}
 use native.Mathlib.Omega.{arith}
-use Rattle.lines.specs.Text.{sizeIn, size}
-use Rattle.lines.proofs.Digits.{one-digit, more-digits}
-use Rattle.lines.proofs.text.size.Statement.{statement}
-use Rattle.lines.proofs.text.size.Tie as tie
+use Rattle.buffers.specs.Digits.{sizeIn, size}
+use Rattle.buffers.proofs.Lengths.{one-digit, more-digits}
+use Rattle.buffers.proofs.digits.size.Statement.{statement}
+use Rattle.buffers.proofs.digits.size.Tie as tie
 
 -- at most so many digits are left
 abbrev Inv-loop : tie.InvT-loop

@@ -1,0 +1,29 @@
+// What is written into a lent buffer: decimal numbers, and what is left of a block of a stream.
+pub mod digits;
+
+ghost use mathlib.Core.Path.{_≡_};
+ghost use Prim.Native.Nat.{min};
+ghost use lib.ListN.{length};
+ghost use lib.Seq.{sets};
+ghost use Rattle.buffers.specs.Blocks.{leftIn};
+
+// Carries what is left of the bytes held in a block, after those taken, to its front, and answers how many these are.
+pub fn carry(block: &mut [u8], taken: usize, held: usize) -> usize
+    ensures { λ r. ⌜ (r ≡ length (leftIn taken held (now (block .entry)))) × (now (block .exit) ≡ sets (now (block .entry)) 0 (leftIn taken held (now (block .entry)))) ⌝ }
+{
+    let end = least(held, block.len());
+    if end <= taken {
+        return 0;
+    }
+    let left = end - taken;
+    for i in 0..left {
+        block[i] = block[taken + i];
+    }
+    left
+}
+
+pub fn least(a: usize, b: usize) -> usize
+    ensures { λ r. ⌜ r ≡ min a b ⌝ }
+{
+    if a < b { a } else { b }
+}
