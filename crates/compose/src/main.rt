@@ -1,8 +1,8 @@
 // The compose program: lines of words from standard input, event records to standard output.
+use composing::Draft;
 use libc::STDERR_FILENO;
 use libc::STDIN_FILENO;
 use libc::STDOUT_FILENO;
-use text::compose::Draft;
 ghost use mathlib.Core.Path.{_≡_};
 ghost use mathlib.Core.Bool.{false};
 

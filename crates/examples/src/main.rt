@@ -1,11 +1,11 @@
 // The examples: of each three files that the arguments name, the words in the first give the records in the second, and those give the
 // lines in the third.
+use composing::Draft;
 use libc::STDOUT_FILENO;
 use lines::Run;
-use text::compose::Draft;
 ghost use mathlib.Core.Path.{_≡_};
 ghost use Rattle.io.specs.Counts.{Counts};
-ghost use Rattle.text.specs.Words.{isSame};
+ghost use Rattle.words.specs.Words.{isSame};
 
 // Reads a file, as far as the buffer holds it, and answers how many bytes there are.
 fn read_file(path: &[u8], buffer: &mut [u8]) -> usize

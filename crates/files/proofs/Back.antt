@@ -13,11 +13,12 @@ use Rattle.records.specs.Record.{recordOf, bytesOf, writtenAt, AreBytes, InRang
 use Rattle.records.specs.Stream.{takesBearers}
 use Rattle.records.specs.declared.Record.{Record}
 use Rattle.records.proofs.RoundTrip.{in-range, bytes-back, bytes-take, bytes-drop}
-use Rattle.text.specs.declared.show.Sheet.{Sheet}
-use Rattle.text.specs.Composed.{Made, made, newDraft, blankValues, takesBearer, stage, step}
-use Rattle.text.specs.Shown.{valuesOf, endText, joins, newSheet, sheetAfter, hasWord, wordsText, rawText, recordText, eventText, restText}
-use Rattle.text.proofs.Digits.{between}
-use Rattle.text.proofs.Machine.{step-gap}
+use Rattle.showing.specs.declared.Sheet.{Sheet}
+use Rattle.composing.specs.Composed.{Made, made, newDraft, blankValues, takesBearer, stage, step}
+use Rattle.words.specs.Values.{valuesOf}
+use Rattle.showing.specs.Shown.{endText, joins, newSheet, sheetAfter, hasWord, wordsText, rawText, recordText, eventText, restText}
+use Rattle.laws.proofs.Tests.{between}
+use Rattle.composing.proofs.Machine.{step-gap}
 use Rattle.files.specs.Files.{shownFrom, shownFile, composedFrom, composedIn}
 use Rattle.files.proofs.Leading.{at, resting, leads-on, leads-to, Reads}
 use Rattle.files.proofs.Fields.{record-read}

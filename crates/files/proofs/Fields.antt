@@ -12,10 +12,11 @@ use Rattle.laws.proofs.Tests.{both-true, by-cases, below-at}
 use Rattle.buffers.specs.Digits.{size, digits}
 use Rattle.records.specs.Record.{InRange}
 use Rattle.records.specs.declared.Record.{Record}
-use Rattle.text.specs.declared.compose.Word.{Word}
-use Rattle.text.specs.Words.{wordAt}
-use Rattle.text.specs.Shown.{spacedWord, valuesOf, fieldWord, valueText, fieldText, fieldsText, wordsText}
-use Rattle.text.specs.Composed.{isSet, limits, fields, nextField, mayBegin, Made, stage}
+use Rattle.composing.specs.declared.Word.{Word}
+use Rattle.words.specs.Values.{valuesOf, isSet}
+use Rattle.words.specs.Words.{wordAt}
+use Rattle.showing.specs.Shown.{spacedWord, fieldWord, valueText, fieldText, fieldsText, wordsText}
+use Rattle.composing.specs.Composed.{limits, fields, nextField, mayBegin, Made, stage}
 use Rattle.files.proofs.Leading.{at, resting, Reads}
 use Rattle.files.proofs.Typing.{Adds, adds-none, adds-on, adds-word, kind-read, field-read, number-read}
 use Rattle.files.proofs.Members.{ids-read}

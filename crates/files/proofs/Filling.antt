@@ -9,8 +9,7 @@ use lib.ListN.{length, getD, take, drop, length-append, length-drop, List·getD-
 use lib.Seq.{sets, sets-eq, take-at, getD-at, getD-take, length-take-le}
 use Rattle.records.specs.Record.{bytesOf, writtenAt, InRange}
 use Rattle.records.specs.declared.Record.{Record}
-use Rattle.text.specs.Composed.{recordFrom}
-use Rattle.text.specs.Shown.{valuesOf}
+use Rattle.words.specs.Values.{valuesOf, recordFrom}
 
 -- so many bytes of the buffer are filled, and these are they
 pub record Holds (staged : ℕ) (out bytes : List ℕ) : Type 0 where

@@ -6,8 +6,8 @@ use mathlib.Core.List.{List, [], _∷_, _++_, append-assoc}
 use native.Mathlib.Omega.{arith}
 use borrow.Author.Tests.{ne-eqb}
 use Rattle.laws.proofs.Tests.{on-false}
-use Rattle.text.specs.declared.compose.Word.{Word}
-use Rattle.text.specs.Composed.{Made, made, emptyWord, isGap, step, settle}
+use Rattle.composing.specs.declared.Word.{Word}
+use Rattle.composing.specs.Composed.{Made, made, emptyWord, isGap, step, settle}
 use Rattle.files.specs.Files.{composedFrom}
 
 -- a line that has not ended

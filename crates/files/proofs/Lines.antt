@@ -10,11 +10,11 @@ use lib.ListN.{length, getD, take, drop}
 use Rattle.laws.proofs.Tests.{both-true, refuted, on-false}
 use Rattle.records.specs.Record.{bytesOf, writtenAt, InRange}
 use Rattle.records.specs.declared.Record.{Record}
-use Rattle.text.specs.declared.compose.Word.{Word}
-use Rattle.text.specs.declared.compose.Draft.{Draft}
-use Rattle.text.specs.Composed.{Made, made, newDraft, emptyWord, takesBearer, lacksCount, finished, stage, settle, counted, close, step}
-use Rattle.text.specs.Shown.{valuesOf}
-use Rattle.text.proofs.Machine.{lacks, close-on, step-end}
+use Rattle.composing.specs.declared.Word.{Word}
+use Rattle.composing.specs.declared.Draft.{Draft}
+use Rattle.composing.specs.Composed.{Made, made, newDraft, emptyWord, takesBearer, lacksCount, finished, stage, settle, counted, close, step}
+use Rattle.words.specs.Values.{valuesOf}
+use Rattle.composing.proofs.Machine.{lacks, close-on, step-end}
 use Rattle.files.specs.Files.{composedFrom}
 use Rattle.files.proofs.Leading.{at, resting}
 use Rattle.files.proofs.Filling.{Holds, holds-at, holds-record, fields-back}

@@ -12,8 +12,9 @@ use Rattle.laws.proofs.Tests.{by-cases}
 use Rattle.sets.specs.Sets.{member, add}
 use Rattle.sets.proofs.Membership.{member-add, member-none, member-beyond, add-fits, same-members}
 use Rattle.buffers.specs.Digits.{size, digits}
-use Rattle.text.specs.Shown.{numberText, idText, idsText}
-use Rattle.text.specs.Composed.{isSet, limits, Made}
+use Rattle.showing.specs.Shown.{numberText, idText, idsText}
+use Rattle.composing.specs.Composed.{limits, Made}
+use Rattle.words.specs.Values.{isSet}
 use Rattle.files.proofs.Leading.{resting}
 use Rattle.files.proofs.Typing.{Adds, adds-none, adds-on, adds-word, number-read}
 

@@ -13,9 +13,10 @@ use lib.Seq.{getD-set-other}
 use Rattle.laws.proofs.Tests.{by-cases, both-true, on-true, on-false, below-at}
 use Rattle.records.specs.Record.{roomAt, writtenAt}
 use Rattle.records.specs.declared.Record.{Record}
-use Rattle.text.specs.declared.compose.Draft.{Draft}
-use Rattle.text.specs.Composed.{Made, made, fields, limits, isSet, isGap, isPair, hexValue, recordFrom, takesBearer, mayBegin, lacksCount, newDraft, onDraft, put, begun, chosen, commented, stage, hex, counted, understood, settle, close, typed, step, readFrom, withWord, pushed}
-use Rattle.text.specs.Words.{placeOf}
+use Rattle.composing.specs.declared.Draft.{Draft}
+use Rattle.composing.specs.Composed.{Made, made, fields, limits, isGap, isPair, hexValue, takesBearer, mayBegin, lacksCount, newDraft, onDraft, put, begun, chosen, commented, stage, hex, counted, understood, settle, close, typed, step, readFrom, withWord, pushed}
+use Rattle.words.specs.Values.{recordFrom, isSet}
+use Rattle.words.specs.Words.{placeOf}
 use Rattle.files.specs.Files.{Records, OneEvent}
 use Rattle.files.proofs.Filling.{written-size, written-before, written-at}
 

@@ -11,10 +11,10 @@ use lib.ListN.{length, set, length-set}
 use lib.Seq.{sets}
 use Rattle.laws.proofs.Tests.{by-cases}
 use Rattle.records.specs.Record.{AreBytes}
-use Rattle.text.specs.Composed.{emptyWord, pushed, nibble, hexValue, hex, understood, settle, typed, step}
-use Rattle.text.specs.Shown.{hexDigit, bytesText, rawText}
-use Rattle.text.specs.Words.{wordAt, trimmed, isSame, placeIn}
-use Rattle.text.proofs.Machine.{hex-on, typed-on, typed-pair, step-typed}
+use Rattle.composing.specs.Composed.{emptyWord, pushed, nibble, hexValue, hex, understood, settle, typed, step}
+use Rattle.showing.specs.Shown.{hexDigit, bytesText, rawText}
+use Rattle.words.specs.Words.{wordAt, trimmed, isSame, placeIn}
+use Rattle.composing.proofs.Machine.{hex-on, typed-on, typed-pair, step-typed}
 use Rattle.files.specs.Files.{composedFrom}
 use Rattle.files.proofs.Leading.{at, resting, Leads, leads-on, leads-to, no-gap}
 

@@ -7,7 +7,7 @@ use native.Mathlib.Nat.{zero-add}
 use native.Mathlib.Omega.{arith}
 use lib.ListN.{drop}
 use Rattle.laws.proofs.Tests.{by-cases, on-true, on-false}
-use Rattle.text.specs.Composed.{Made, step, readFrom, takenFrom}
+use Rattle.composing.specs.Composed.{Made, step, readFrom, takenFrom}
 use Rattle.files.specs.Files.{lineBytes, nextLine, composedFrom}
 
 -- whether a line has ended

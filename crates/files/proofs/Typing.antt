@@ -9,10 +9,10 @@ use lib.Dec.{leb, eqb}
 use lib.ListN.{getD, set}
 use Rattle.laws.proofs.Tests.{both-true, by-cases, on-true, below, below-at}
 use Rattle.buffers.specs.Digits.{sizeIn, size, digits}
-use Rattle.text.specs.declared.compose.Word.{Word}
-use Rattle.text.specs.Words.{isSame, placeIn, placeOf, trimmed, wordAt}
-use Rattle.text.specs.Composed.{isGap, takesDigit, longer, emptyWord, pushed, blankValues, limits, fields, added, nextField, put, begun, chosen, mayBegin, Made, stage, understood, settle, step}
-use Rattle.text.proofs.Machine.{a-kind, a-field, settle-number, settle-word, typed-on, step-gap, step-typed}
+use Rattle.composing.specs.declared.Word.{Word}
+use Rattle.words.specs.Words.{isSame, placeIn, placeOf, trimmed, wordAt}
+use Rattle.composing.specs.Composed.{isGap, takesDigit, longer, emptyWord, pushed, blankValues, limits, fields, added, nextField, put, begun, chosen, mayBegin, Made, stage, understood, settle, step}
+use Rattle.composing.proofs.Machine.{a-kind, a-field, settle-number, settle-word, typed-on, step-gap, step-typed}
 use Rattle.files.proofs.Leading.{at, resting, Leads, leads-on, leads-to, no-gap, Reads}
 
 -- ---- one text after another

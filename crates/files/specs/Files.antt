@@ -5,9 +5,9 @@ use mathlib.Core.Bool.{cond}
 use mathlib.Core.List.{List, [], _∷_, _++_}
 use lib.Dec.{leb}
 use lib.ListN.{length, getD, take, drop}
-use Rattle.text.specs.declared.show.Sheet.{Sheet}
-use Rattle.text.specs.Shown.{newSheet, shownOf, shownText, lastText}
-use Rattle.text.specs.Composed.{Made, made, step, newDraft}
+use Rattle.showing.specs.declared.Sheet.{Sheet}
+use Rattle.showing.specs.Shown.{newSheet, shownOf, shownText, lastText}
+use Rattle.composing.specs.Composed.{Made, made, step, newDraft}
 
 -- so many records one after the other, then what is left, each shown in a buffer that has room for any
 unfoldable pub shownFrom : ℕ → List ℕ → Sheet → List ℕ

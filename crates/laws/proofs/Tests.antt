@@ -40,6 +40,10 @@ pub both-true : (a b : Bool) → (a && b) ≡ true → (a ≡ true) × (b ≡ tr
 both-true true b t = (refl, t)
 both-true false b t = absurd (false≢true t)
 
+-- A number between two.
+pub between : (a b n : ℕ) → (leb a n && leb n b) ≡ true → (a ≤ n) × (n ≤ b)
+between a b n t = (leb-true a n (both-true (leb a n) (leb n b) t .0), leb-true n b (both-true (leb a n) (leb n b) t .1))
+
 -- One of two tests holds where either does.
 pub either-true : (a b : Bool) → (a || b) ≡ true → (a ≡ true) ⊎ (b ≡ true)
 either-true true b t = inl refl

@@ -3,7 +3,7 @@ use buffers::carry;
 use libc::STDERR_FILENO;
 use libc::STDIN_FILENO;
 use libc::STDOUT_FILENO;
-use text::show::Sheet;
+use showing::Sheet;
 
 // A run between two reads: how many bytes the input buffer holds, and whether there is more to do.
 struct Stage {

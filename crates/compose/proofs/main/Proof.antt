@@ -4,7 +4,7 @@ use mathlib.Core.Bool.{false}
 use native.Mathlib.Omega.{arith}
 use borrow.Author.Tests.{ltb-true}
 use Rattle.laws.proofs.Tests.{both-true}
-use Rattle.text.specs.declared.compose.Draft.{Draft}
+use Rattle.composing.specs.declared.Draft.{Draft}
 use lib.Dec.{ltb}
 use lib.ListN.{length}
 use Rattle.compose.proofs.main.Statement.{statement}

@@ -1,7 +1,7 @@
 -- The line that is read on has not ended.
 use mathlib.Core.Path.{ap}
 use borrow.Author.Tests.{not-true}
-use Rattle.text.specs.declared.compose.Draft.{Draft}
+use Rattle.composing.specs.declared.Draft.{Draft}
 use borrow.Author.Needs.{needs}
 use Rattle.compose.proofs.next_line.Statement.{statement}
 use Rattle.compose.proofs.next_line.Tie as tie

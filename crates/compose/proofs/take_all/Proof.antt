@@ -6,8 +6,8 @@ use mathlib.Core.List.{List}
 use native.Mathlib.Omega.{arith}
 use borrow.Author.Tests.{ltb-true}
 use Rattle.laws.proofs.Tests.{both-true}
-use Rattle.text.specs.Composed.{Made, takenFrom}
-use Rattle.text.proofs.Taken.{part-taken}
+use Rattle.composing.specs.Composed.{Made, takenFrom}
+use Rattle.composing.proofs.Taken.{part-taken}
 use lib.Dec.{ltb}
 use lib.ListN.{length, take, drop}
 use Rattle.compose.proofs.take_all.Statement.{statement}

@@ -7,8 +7,8 @@ use borrow.Author.Tests.{eq-eqb, ne-eqb}
 use native.Mathlib.Omega.{arith}
 use lib.Dec.{eqb}
 use lib.ListN.{length, drop}
-use Rattle.text.proofs.Comparing.{same-next, same-end}
-use Rattle.text.specs.Words.{isSame}
+use Rattle.words.proofs.Comparing.{same-next, same-end}
+use Rattle.words.specs.Words.{isSame}
 use Rattle.examples.proofs.same.Statement.{statement}
 use Rattle.examples.proofs.same.Tie as tie
 

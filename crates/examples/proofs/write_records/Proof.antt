@@ -9,8 +9,8 @@ use borrow.Rule.Slice.PartMut.{midOf, putMid, same-len-mid}
 use lib.Dec.{ltb}
 use lib.ListN.{length}
 use lib.Seq.{length-take-le}
-use Rattle.text.specs.declared.compose.Draft.{Draft}
-use Rattle.text.proofs.Taken.{part-taken}
+use Rattle.composing.specs.declared.Draft.{Draft}
+use Rattle.composing.proofs.Taken.{part-taken}
 use Rattle.examples.proofs.write_records.Statement.{statement}
 use Rattle.examples.proofs.write_records.Tie as tie
 

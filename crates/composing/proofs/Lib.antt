@@ -1,0 +1,4 @@
+pub mod Digits
+pub mod Machine
+pub mod Once
+pub mod Taken

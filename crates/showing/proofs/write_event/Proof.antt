@@ -1,0 +1,25 @@
+-- What stands before a record, and the record after it.
+use Rattle.showing.proofs.Writing.{event-written}
+use borrow.Author.Needs.{needs}
+use Rattle.showing.proofs.write_event.Statement.{statement}
+use Rattle.showing.proofs.write_event.Tie as tie
+
+write-gap-requires : tie.Need-write-gap-requires
+write-gap-requires c κs = search needs
+
+write-record-requires : tie.Need-write-record-requires
+write-record-requires c κs = search needs
+
+same-length : tie.Need-same-length
+same-length c = search needs
+
+returns : tie.Need-returns
+returns c =
+    let start = c .before .before .before .before .before .before .before .before .before .before .args in
+    let first = c .before .before .before .before .before .before .write-gap .ensures in
+    let then = c .before .before .write-record .ensures in
+    event-written (start .s) (start .r) (start .bytes .now) (start .out .now) _ _ _ _ (c .before .before .before .before .before .before .before .before .before .before .pre .1) (first .0) (first .1) (then .0) (then .1)
+
+pub write-event-spec : {M : Type 1} → statement M
+write-event-spec =
+    tie.close (tie.spec write-gap-requires write-record-requires same-length returns)

@@ -1,0 +1,30 @@
+-- A space, and the word after it.
+use mathlib.Core.Path.{_∙_}
+use native.Mathlib.Omega.{arith}
+use lib.ListN.{length-set}
+use Rattle.showing.proofs.Writing.{after-space}
+use Rattle.words.specs.Words.{wordAt}
+use borrow.Author.Needs.{needs}
+use Rattle.showing.proofs.write_spaced.Statement.{statement}
+use Rattle.showing.proofs.write_spaced.Tie as tie
+
+slice-write-out : tie.Need-slice-write-out
+slice-write-out c = search needs
+
+add-write-word : tie.Need-add-write-word
+add-write-word c = search needs
+
+write-word-requires : tie.Need-write-word-requires
+write-word-requires c κs = (c .before .before .pre .0, simp length-set (omega (arith, c .before .before .pre .1)))
+
+same-length : tie.Need-same-length
+same-length c = c .before .before .write-word .kept .1 .0 ∙ length-set (c .before .before .before .before .before .args .out .now) _ _
+
+returns : tie.Need-returns
+returns c =
+    let start = c .before .before .before .before .before .args in
+    after-space (start .out .now) _ (start .at) _ (wordAt (start .word)) (c .before .before .write-word .ensures .0) (c .before .before .write-word .ensures .1) (c .before .before .write-word .ensures .2)
+
+pub write-spaced-spec : {M : Type 1} → statement M
+write-spaced-spec =
+    tie.close (tie.spec slice-write-out add-write-word write-word-requires same-length returns)

@@ -1,3 +1,0 @@
-pub mod Composed
-pub mod Shown
-pub mod Words
