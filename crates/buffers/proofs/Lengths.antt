@@ -1,13 +1,15 @@
 -- How many digits a number has, and how long the texts of numbers are.
-use Prim.Native.Nat.{ℕ, zero, suc, _*_, _/_, _≤_, _<_}
+use Prim.Native.Nat.{ℕ, zero, suc, _+_, _*_, _/_, _≤_, _<_}
 use mathlib.Core.Path.{_≡_, refl, _∙_}
 use mathlib.Core.List.{List, [], _∷_}
 use borrow.Author.Tests.{le-leb, lt-leb}
 use native.Mathlib.Omega.{arith}
 use lib.Dec.{leb}
 use lib.ListN.{length, length-append}
+use lib.Seq.{sets}
 use Rattle.laws.proofs.Tests.{by-cases}
-use Rattle.buffers.specs.Digits.{sizeIn, size, digits, cell, spaced}
+use Rattle.buffers.specs.Buffers.{Writes}
+use Rattle.buffers.specs.Digits.{sizeIn, size, digits, cellRoom, cell, spaced}
 
 -- A number below ten has one digit.
 pub one-digit : (most n : ℕ) → n < 10 → sizeIn most n ≡ 1
@@ -36,11 +38,15 @@ unfolding digits
 length-digits zero n = refl
 length-digits (suc k) n = length-append (digits k (n / 10)) _ ∙ rw (length-digits k (n / 10)) (omega arith)
 
--- A number and the byte after it take at most 21 bytes.
-pub cell-most : (n after : ℕ) → length (cell n after) ≤ 21
+-- All digits of a number, stored from a place on.
+pub spelled : {before after : List ℕ} (at n k : ℕ) → k ≡ size n → after ≡ sets before at (digits k n) → Writes before after at (digits (size n) n) (at + k)
+spelled at n k e f = record { next = rw (e, length-digits (size n) n); bytes = rw e at f }
+
+-- A number and the byte after it have room in as many bytes as are said to be enough.
+pub cell-most : (n after : ℕ) → length (cell n after) ≤ cellRoom
 cell-most n after = rw (length-append (digits (size n) n) (after ∷ []), length-digits (size n) n) (omega (arith, size-most 19 n))
 
-pub spaced-most : (ns : List ℕ) → length (spaced ns) ≤ 21 * length ns
+pub spaced-most : (ns : List ℕ) → length (spaced ns) ≤ cellRoom * length ns
 unfolding spaced
 spaced-most [] = omega arith
 spaced-most (n ∷ ns) = rw (length-append (cell n 32) (spaced ns)) (omega (arith, cell-most n 32, spaced-most ns))

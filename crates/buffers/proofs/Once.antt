@@ -2,17 +2,14 @@
 use Prim.Native.Nat.{ℕ}
 use mathlib.Core.Path.{_≡_, sym, _∙_}
 use mathlib.Core.List.{List}
-use lib.ListN.{length}
 use lib.Seq.{sets}
-use Rattle.buffers.specs.Blocks.{leftIn}
+use Rattle.buffers.specs.Buffers.{Writes}
 use Rattle.buffers.specs.Digits.{size, digits}
 
--- Of the same block and numbers there is one answer, and one block afterwards.
-pub carry-once : (taken held : ℕ) (block : List ℕ) (a b : ℕ) (v w : List ℕ)
-    → (a ≡ length (leftIn taken held block)) × (v ≡ sets block 0 (leftIn taken held block))
-    → (b ≡ length (leftIn taken held block)) × (w ≡ sets block 0 (leftIn taken held block))
-    → (a ≡ b) × (v ≡ w)
-carry-once taken held block a b v w p q = (p .0 ∙ sym (q .0), p .1 ∙ sym (q .1))
+-- Of the same buffer, place and text there is one place after it, and one buffer afterwards. So it is of every contract that says what
+-- is written.
+pub writes-once : {before after after' : List ℕ} {at : ℕ} {text : List ℕ} {a b : ℕ} → Writes before after at text a → Writes before after' at text b → (a ≡ b) × (after ≡ after')
+writes-once p q = (p .next ∙ sym (q .next), p .bytes ∙ sym (q .bytes))
 
 -- A number has one count of digits, and of the same number, count, buffer and place there is one buffer afterwards.
 pub digits-once : (n a b : ℕ) → a ≡ size n → b ≡ size n → a ≡ b

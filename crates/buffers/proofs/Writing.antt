@@ -1,11 +1,12 @@
 -- Stores one after the other: what a buffer holds after two texts, and after one whose last byte is stored first.
 use Prim.Native.Nat.{ℕ, suc, _+_}
-use mathlib.Core.Path.{_≡_, sym, ap, _∙_}
+use mathlib.Core.Path.{_≡_, refl, sym, ap, _∙_}
 use mathlib.Core.List.{List, [], _∷_, _++_}
 use native.Mathlib.Nat.{add-zero, add-assoc}
 use native.Mathlib.Omega.{arith}
 use lib.ListN.{length, length-append, set}
 use lib.Seq.{sets, set-comm}
+use Rattle.buffers.specs.Buffers.{Writes}
 
 -- A text and then another are the two put together.
 pub sets-append : (l : List ℕ) (i : ℕ) (xs ys : List ℕ) → sets l i (xs ++ ys) ≡ sets (sets l i xs) (i + length xs) ys
@@ -22,9 +23,34 @@ last-first l i (x ∷ xs) y =
     last-first (set l i x) (suc i) xs y
     ∙ ap (λ (m : List ℕ). sets m (suc i) xs) (set-comm l i (suc i + length xs) x y (λ e. omega arith) ∙ ap (λ (k : ℕ). set (set l k y) i x) there)
 
--- Two texts, the second where the first ended, are the two put together: the next place, and what is written.
-pub joined : (out left last : List ℕ) (at next end : ℕ) (xs ys : List ℕ) → next ≡ at + length xs → left ≡ sets out at xs → end ≡ next + length ys
-    → last ≡ sets left next ys
-    → (end ≡ at + length (xs ++ ys)) × (last ≡ sets out at (xs ++ ys))
-joined out left last at next end xs ys n l e f =
-    (e ∙ rw (n, length-append xs ys) (add-assoc at (length xs) (length ys)), f ∙ rw (l, n) (sym (sets-append out at xs ys)))
+-- What is stored is written; nothing is written by itself.
+pub stored : (out : List ℕ) (at : ℕ) (text : List ℕ) → Writes out (sets out at text) at text (at + length text)
+stored out at text = record { next = refl; bytes = refl }
+
+pub nothing : (out : List ℕ) (at : ℕ) → Writes out out at [] at
+nothing out at = record { next = omega arith; bytes = refl }
+
+-- Two texts, the second where the first ended, are the two put together.
+pub joined : {before middle after : List ℕ} {at next end : ℕ} {xs ys : List ℕ} → Writes before middle at xs next → Writes middle after next ys end
+    → Writes before after at (xs ++ ys) end
+joined {before} {at = at} {xs = xs} {ys = ys} first then =
+    record {
+      next = then .next ∙ rw (first .next, length-append xs ys) (add-assoc at (length xs) (length ys));
+      bytes = then .bytes ∙ rw (first .bytes, first .next) (sym (sets-append before at xs ys));
+    }
+
+-- the rest of a text, written from here on, completes it
+abbrev pub Completes : List ℕ → List ℕ → ℕ → List ℕ → ℕ → List ℕ → Type 0
+Completes before now at whole here rest = Writes before (sets now here rest) at whole (here + length rest)
+
+module _ {before now : List ℕ} {at : ℕ} {whole : List ℕ} {here : ℕ} where
+  -- One part of the rest is written.
+  pub onward : {left : List ℕ} {there : ℕ} {part : List ℕ} (rest : List ℕ) → Completes before now at whole here (part ++ rest)
+      → Writes now left here part there → Completes before left at whole there rest
+  onward {left} {there} rest owed part =
+      let both = joined part (stored left there rest) in
+      record { next = both .next ∙ owed .next; bytes = both .bytes ∙ owed .bytes }
+
+  -- Nothing of it is left.
+  pub completed : Completes before now at whole here [] → Writes before now at whole here
+  completed owed = record { next = omega (arith, owed .next); bytes = owed .bytes }

@@ -18,6 +18,10 @@ unfoldable pub digits : ℕ → ℕ → List ℕ
 digits zero n = []
 digits (suc k) n = digits k (n / 10) ++ ((48 + n % 10) ∷ [])
 
+-- so many bytes have room for a number and a byte beside it
+abbrev pub cellRoom : ℕ
+cellRoom = 21
+
 -- a number and the byte after it
 abbrev pub cell : ℕ → ℕ → List ℕ
 cell n after = digits (size n) n ++ (after ∷ [])

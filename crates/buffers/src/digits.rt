@@ -1,10 +1,10 @@
 // Decimal numbers in a lent buffer.
 ghost use mathlib.Core.Path.{_≡_};
 ghost use Prim.Native.Nat.{_+_, _*_, _≤_};
-ghost use mathlib.Core.List.{_++_};
 ghost use lib.ListN.{length};
 ghost use lib.Seq.{sets};
-ghost use Rattle.buffers.specs.Digits.{size as sizeOf, digits, cell as cellOf, spaced};
+ghost use Rattle.buffers.specs.Buffers.{Writes};
+ghost use Rattle.buffers.specs.Digits.{size as sizeOf, digits, cellRoom, cell as cellOf, spaced};
 
 // How many digits a number has.
 pub fn size(n: u64) -> usize
@@ -33,10 +33,10 @@ pub fn spell(n: u64, k: usize, out: &mut [u8], at: usize)
     }
 }
 
-// Writes a number and the byte after it from a place on, and answers the next place. 21 bytes are room enough.
+// Writes a number and the byte after it from a place on, and answers the next place.
 pub fn cell(n: u64, after: u8, out: &mut [u8], at: usize) -> usize
-    requires { ⌜ at + 21 ≤ length (now out) ⌝ }
-    ensures { λ r. ⌜ (r ≡ at + length (cellOf n after)) × (now (out .exit) ≡ sets (now (out .entry)) at (cellOf n after)) ⌝ }
+    requires { ⌜ at + cellRoom ≤ length (now out) ⌝ }
+    ensures { λ r. ⌜ Writes (now (out .entry)) (now (out .exit)) at (cellOf n after) r ⌝ }
 {
     let k = size(n);
     spell(n, k, out, at);
@@ -45,10 +45,10 @@ pub fn cell(n: u64, after: u8, out: &mut [u8], at: usize) -> usize
     end + 1
 }
 
-// Writes numbers with a space after each from a place on, and answers the next place.
+// Writes eight numbers with a space after each from a place on, and answers the next place.
 pub fn cells(numbers: [u64; 8], out: &mut [u8], at: usize) -> usize
-    requires { ⌜ (length numbers ≡ 8) × (at + 168 ≤ length (now out)) ⌝ }
-    ensures { λ r. ⌜ (r ≡ at + length (spaced numbers)) × (now (out .exit) ≡ sets (now (out .entry)) at (spaced numbers)) ⌝ }
+    requires { ⌜ (length numbers ≡ 8) × (at + 8 * cellRoom ≤ length (now out)) ⌝ }
+    ensures { λ r. ⌜ Writes (now (out .entry)) (now (out .exit)) at (spaced numbers) r ⌝ }
 {
     let mut place = at;
     for i in 0..8usize {

@@ -3,13 +3,11 @@ pub mod digits;
 
 ghost use mathlib.Core.Path.{_≡_};
 ghost use Prim.Native.Nat.{min};
-ghost use lib.ListN.{length};
-ghost use lib.Seq.{sets};
-ghost use Rattle.buffers.specs.Blocks.{leftIn};
+ghost use Rattle.buffers.specs.Buffers.{Writes, leftIn};
 
 // Carries what is left of the bytes held in a block, after those taken, to its front, and answers how many these are.
 pub fn carry(block: &mut [u8], taken: usize, held: usize) -> usize
-    ensures { λ r. ⌜ (r ≡ length (leftIn taken held (now (block .entry)))) × (now (block .exit) ≡ sets (now (block .entry)) 0 (leftIn taken held (now (block .entry)))) ⌝ }
+    ensures { λ r. ⌜ Writes (now (block .entry)) (now (block .exit)) 0 (leftIn taken held (now (block .entry))) r ⌝ }
 {
     let end = least(held, block.len());
     if end <= taken {

@@ -1,5 +1,6 @@
 // The compose program: lines of words from standard input, event records to standard output.
 use composing::Draft;
+use composing::LONGEST;
 use libc::STDERR_FILENO;
 use libc::STDIN_FILENO;
 use libc::STDOUT_FILENO;
@@ -113,7 +114,7 @@ fn turn(s: Stage, input: &mut [u8], output: &mut [u8]) -> Stage
 
 fn main() {
     let mut input = io::large_buffer();
-    let mut output = [0u8; 8224];
+    let mut output = [0u8; LONGEST];
     let draft = Draft::new();
     let mut s = Stage {
         draft,

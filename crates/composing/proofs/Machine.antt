@@ -12,33 +12,33 @@ use lib.Seq.{drop-cons}
 use Rattle.laws.proofs.Tests.{both-true, by-cases, on-true, on-false}
 use Rattle.composing.specs.declared.Draft.{Draft}
 use Rattle.composing.specs.Composed.{hexValue, tooLong, appended, mayBegin, Made, made, onDraft, begun, chosen, put, rawBegun, wrong, pushed, withWord, isPair, isGap, lacksCount, counted, stage, hex, understood, settle, close, commented, finished, typed, step, readFrom, takenFrom}
-use Rattle.words.specs.Words.{placeOf}
+use Rattle.words.specs.Words.{lastKind, lastField, absentWord, rawWord, placeOf}
 
 -- a word of the table
 module _ (m : Made) (k : ℕ) where
-  pub a-kind : (d e : Draft) (left : List ℕ) → k ≤ 17 → mayBegin (m .draft) k ≡ true → made d left ≡ stage m → e ≡ begun d k → made e left ≡ understood m k
+  pub a-kind : (d e : Draft) (left : List ℕ) → k ≤ lastKind → mayBegin (m .draft) k ≡ true → made d left ≡ stage m → e ≡ begun d k → made e left ≡ understood m k
   unfolding understood
-  a-kind d e left h t s b = rw (le-leb k 17 h, b) (ap (onDraft (λ x. begun x k)) s ∙ sym (on-true (mayBegin (m .draft) k) _ _ t))
+  a-kind d e left h t s b = rw (le-leb k lastKind h, b) (ap (onDraft (λ x. begun x k)) s ∙ sym (on-true (mayBegin (m .draft) k) _ _ t))
 
-  pub no-kind : (e : Draft) → k ≤ 17 → mayBegin (m .draft) k ≡ false → e ≡ wrong (m .draft) → made e (m .out) ≡ understood m k
+  pub no-kind : (e : Draft) → k ≤ lastKind → mayBegin (m .draft) k ≡ false → e ≡ wrong (m .draft) → made e (m .out) ≡ understood m k
   unfolding understood
-  no-kind e h t b = rw (le-leb k 17 h, b) (sym (on-false (mayBegin (m .draft) k) _ _ t))
+  no-kind e h t b = rw (le-leb k lastKind h, b) (sym (on-false (mayBegin (m .draft) k) _ _ t))
 
-  pub a-field : (e : Draft) → 17 < k → k ≤ 34 → e ≡ chosen (m .draft) k → made e (m .out) ≡ understood m k
+  pub a-field : (e : Draft) → lastKind < k → k ≤ lastField → e ≡ chosen (m .draft) k → made e (m .out) ≡ understood m k
   unfolding understood
-  a-field e g h b = rw (lt-leb k 17 g, le-leb k 34 h, b)
+  a-field e g h b = rw (lt-leb k lastKind g, le-leb k lastField h, b)
 
-  pub an-absent : (e : Draft) → 34 < k → k ≡ 35 → e ≡ put (m .draft) 65535 → made e (m .out) ≡ understood m k
+  pub an-absent : (e : Draft) → lastField < k → k ≡ absentWord → e ≡ put (m .draft) 65535 → made e (m .out) ≡ understood m k
   unfolding understood
-  an-absent e g h b = rw (lt-leb k 17 (omega arith), lt-leb k 34 g, eq-eqb k 35 h, b)
+  an-absent e g h b = rw (lt-leb k lastKind (omega arith), lt-leb k lastField g, eq-eqb k absentWord h, b)
 
-  pub a-raw : (e : Draft) → 34 < k → (k ≡ 35 → ⊥) → (eqb k 36 && eqb (m .draft .mode) 0) ≡ true → e ≡ rawBegun (m .draft) → made e (m .out) ≡ understood m k
+  pub a-raw : (e : Draft) → lastField < k → (k ≡ absentWord → ⊥) → (eqb k rawWord && eqb (m .draft .mode) 0) ≡ true → e ≡ rawBegun (m .draft) → made e (m .out) ≡ understood m k
   unfolding understood
-  a-raw e g h t b = rw (lt-leb k 17 (omega arith), lt-leb k 34 g, ne-eqb k 35 h, b) (sym (on-true (eqb k 36 && eqb (m .draft .mode) 0) _ _ t))
+  a-raw e g h t b = rw (lt-leb k lastKind (omega arith), lt-leb k lastField g, ne-eqb k absentWord h, b) (sym (on-true (eqb k rawWord && eqb (m .draft .mode) 0) _ _ t))
 
-  pub no-word : (e : Draft) → 34 < k → (k ≡ 35 → ⊥) → (eqb k 36 && eqb (m .draft .mode) 0) ≡ false → e ≡ wrong (m .draft) → made e (m .out) ≡ understood m k
+  pub no-word : (e : Draft) → lastField < k → (k ≡ absentWord → ⊥) → (eqb k rawWord && eqb (m .draft .mode) 0) ≡ false → e ≡ wrong (m .draft) → made e (m .out) ≡ understood m k
   unfolding understood
-  no-word e g h t b = rw (lt-leb k 17 (omega arith), lt-leb k 34 g, ne-eqb k 35 h, b) (sym (on-false (eqb k 36 && eqb (m .draft .mode) 0) _ _ t))
+  no-word e g h t b = rw (lt-leb k lastKind (omega arith), lt-leb k lastField g, ne-eqb k absentWord h, b) (sym (on-false (eqb k rawWord && eqb (m .draft .mode) 0) _ _ t))
 
 -- a word that has ended
 module _ (m : Made) where

@@ -2,28 +2,33 @@
 use Prim.Native.Nat.{ℕ, suc, _+_, _*_, _-_, _/_, _%_}
 use mathlib.Core.Bool.{Bool, true, false, cond, _&&_, _||_}
 use mathlib.Core.List.{List, [], _∷_}
-use lib.Dec.{leb, eqb}
+use lib.Dec.{leb, ltb, eqb}
 use lib.ListN.{length, getD, set}
 use Rattle.sets.specs.Sets.{add}
 use Rattle.records.specs.Record.{roomAt, writtenAt}
 use Rattle.composing.specs.declared.Word.{Word}
 use Rattle.composing.specs.declared.Draft.{Draft}
-use Rattle.words.specs.Values.{isSet, recordFrom}
-use Rattle.words.specs.Words.{placeOf}
+use Rattle.words.specs.Values.{fieldCount, isSet, recordFrom}
+use Rattle.words.specs.Words.{lastKind, lastField, absentWord, rawWord, wordRoom, placeOf}
 
 -- "A line is words separated by spaces": a space, a tab, a carriage return
 abbrev pub isGap : ℕ → Bool
 isGap b = eqb b 32 || eqb b 9 || eqb b 13
 
+-- a tenth of the greatest number of 64 bits: a smaller one takes any digit, and this one takes 0 to 5
+abbrev pub tenth : ℕ
+tenth = 1844674407370955161
+
 -- whether a byte is a digit that a number has room for in 64 bits
 abbrev pub takesDigit : ℕ → ℕ → Bool
-takesDigit v b = leb 48 b && leb b 57 && (leb v 1844674407370955160 || eqb v 1844674407370955161 && leb b 53)
+takesDigit v b = leb 48 b && leb b 57 && (ltb v tenth || eqb v tenth && leb b 53)
 
 abbrev pub grown : ℕ → ℕ → ℕ
 grown v b = cond (takesDigit v b) (v * 10 + (b - 48)) 0
 
+-- a word's size stops one beyond the longest
 abbrev pub longer : ℕ → ℕ
-longer n = cond (leb n 16) (n + 1) 17
+longer n = cond (leb n wordRoom) (n + 1) (wordRoom + 1)
 
 abbrev pub emptyWord : Word
 emptyWord =
@@ -63,9 +68,9 @@ fields =
 abbrev pub added : ℕ → ℕ → ℕ → ℕ
 added f v n = cond (isSet f) (add (v % 65536) (n % 256)) n
 
--- a set takes more numbers
+-- a set takes more numbers, and no field stands for none
 abbrev pub nextField : ℕ → ℕ
-nextField f = cond (isSet f) f 15
+nextField f = cond (isSet f) f fieldCount
 
 abbrev pub inMode : ℕ → Draft → Draft
 inMode mode d = record { values = d .values; field = d .field; mode = mode; staged = d .staged; word = d .word; ended = d .ended }
@@ -119,7 +124,7 @@ chosen d word =
 
 -- bytes follow
 abbrev pub rawBegun : Draft → Draft
-rawBegun d = record { values = d .values; field = 15; mode = 2; staged = d .staged; word = emptyWord; ended = d .ended }
+rawBegun d = record { values = d .values; field = fieldCount; mode = 2; staged = d .staged; word = emptyWord; ended = d .ended }
 
 -- what a hexadecimal digit stands for; 16 for any other byte
 unfoldable pub nibble : ℕ → ℕ
@@ -188,10 +193,10 @@ mayBegin d word = eqb (d .mode) 0 || eqb (d .mode) 1 && eqb word 16 && takesBear
 unfoldable pub understood : Made → ℕ → Made
 understood m word =
     let d = m .draft in
-    cond (leb word 17) (cond (mayBegin d word) (onDraft (λ e. begun e word) (stage m)) (onDraft wrong m))
-    (cond (leb word 34) (onDraft (λ e. chosen e word) m)
-    (cond (eqb word 35) (onDraft (λ e. put e 65535) m)
-    (cond (eqb word 36 && eqb (d .mode) 0) (onDraft rawBegun m) (onDraft wrong m))))
+    cond (leb word lastKind) (cond (mayBegin d word) (onDraft (λ e. begun e word) (stage m)) (onDraft wrong m))
+    (cond (leb word lastField) (onDraft (λ e. chosen e word) m)
+    (cond (eqb word absentWord) (onDraft (λ e. put e 65535) m)
+    (cond (eqb word rawWord && eqb (d .mode) 0) (onDraft rawBegun m) (onDraft wrong m))))
 
 -- a word has ended
 unfoldable pub settle : Made → Made
@@ -242,9 +247,13 @@ step m b =
     (cond (eqb b 35) (onDraft commented (close m)) (cond (isGap b) (settle m) (typed m b)))
     m)
 
+-- the longest event has so many bytes: a request, and 256 bearers
+abbrev pub longestEvent : ℕ
+longestEvent = 8224
+
 -- the beginning of a line
 abbrev pub newDraft : Draft
-newDraft = record { values = blankValues 0; field = 15; mode = 0; staged = 0; word = emptyWord; ended = false }
+newDraft = record { values = blankValues 0; field = fieldCount; mode = 0; staged = 0; word = emptyWord; ended = false }
 
 -- a line is read to its end
 unfoldable pub readFrom : List ℕ → Made → Made

@@ -1,12 +1,26 @@
 // Lines of words in, records out: one byte of the text after the other.
 use sets::add;
+use words::ABSENT;
+use words::LAST_FIELD;
+use words::LAST_KIND;
+use words::RAW;
 use words::place_of;
 use words::values::is_set;
 use words::values::record_from;
 ghost use mathlib.Core.Path.{_≡_};
-ghost use Prim.Native.Nat.{_+_, _≤_, _<_};
+ghost use Prim.Native.Nat.{_+_, _^_, _≤_, _<_};
 ghost use lib.ListN.{set};
+ghost use Rattle.words.specs.Words.{lastKind, lastField};
 ghost use Rattle.composing.specs.Composed.{isGap, takesDigit, grown, longer, emptyWord, pushed, added, nextField, wrong, tooLong, put, begun, chosen, rawBegun, nibble, hexValue, appended, takesBearer, mayBegin, withWord, isPair, commented, finished, made, stage, hex, understood, settle, lacksCount, counted, close, typed, step, newDraft, readFrom, takenFrom};
+
+// The bytes of the longest event: a request, and 256 bearers.
+pub const LONGEST: usize = 8224;
+
+// A tenth of the greatest number of 64 bits.
+const TENTH: u64 = 1844674407370955161;
+
+// As many as there are fields: none of them.
+const NO_FIELD: usize = 15;
 
 // What a number in a field may be: for a set, an ID.
 const LIMITS: [u64; 15] = [
@@ -74,7 +88,7 @@ pub struct Word {
     pub number: bool,
 }
 
-// A line as far as it was read: the record that is being filled, the field that takes the next number (15 for none), and how
+// A line as far as it was read: the record that is being filled, the field that takes the next number (`NO_FIELD` for none), and how
 // many bytes of records stand in the buffer.
 pub struct Draft {
     pub values: [u64; 15],
@@ -103,9 +117,7 @@ fn is_gap(byte: u8) -> bool
 fn takes_digit(value: u64, byte: u8) -> bool
     ensures { λ r. ⌜ r ≡ takesDigit value byte ⌝ }
 {
-    (48 <= byte)
-        & (byte <= 57)
-        & ((value <= 1844674407370955160) | ((value == 1844674407370955161) & (byte <= 53)))
+    (48 <= byte) & (byte <= 57) & ((value < TENTH) | ((value == TENTH) & (byte <= 53)))
 }
 
 // A number with one digit more; 0 where it takes none.
@@ -179,7 +191,7 @@ fn added(field: usize, value: u64, n: u64) -> u64
 fn next_field(field: usize) -> usize
     ensures { λ r. ⌜ r ≡ nextField field ⌝ }
 {
-    if is_set(field) { field } else { 15 }
+    if is_set(field) { field } else { NO_FIELD }
 }
 
 // The line is not understood at this word.
@@ -225,7 +237,7 @@ fn put(d: Draft, n: u64) -> Draft
 
 // A new record of a kind.
 fn begun(d: Draft, kind: usize) -> Draft
-    requires { ⌜ kind ≤ 17 ⌝ }
+    requires { ⌜ kind ≤ lastKind ⌝ }
     ensures { λ r. ⌜ r ≡ begun d kind ⌝ }
 {
     if d.mode == 5 {
@@ -245,7 +257,7 @@ fn begun(d: Draft, kind: usize) -> Draft
 
 // A field of the record that is being filled is named.
 fn chosen(d: Draft, word: usize) -> Draft
-    requires { ⌜ word ≤ 34 ⌝ }
+    requires { ⌜ word ≤ lastField ⌝ }
     ensures { λ r. ⌜ r ≡ chosen d word ⌝ }
 {
     if d.mode != 1 {
@@ -269,7 +281,7 @@ fn raw_begun(d: Draft) -> Draft
     let values = d.values;
     Draft {
         values,
-        field: 15,
+        field: NO_FIELD,
         mode: 2,
         staged: d.staged,
         word: empty_word(),
@@ -327,7 +339,7 @@ fn hex_value(w: Word) -> usize
 
 // One byte more stands in the buffer, and no word yet follows it.
 fn appended(d: Draft) -> Draft
-    requires { ⌜ d .staged < 18446744073709551615 ⌝ }
+    requires { ⌜ d .staged + 1 < 2 ^ 64 ⌝ }
     ensures { λ r. ⌜ r ≡ appended d ⌝ }
 {
     let values = d.values;
@@ -377,19 +389,19 @@ fn may_begin(d: Draft, word: usize) -> bool
 fn understood(d: Draft, word: usize, out: &mut [u8]) -> Draft
     ensures { λ r. ⌜ made r (now (out .exit)) ≡ understood (made d (now (out .entry))) word ⌝ }
 {
-    if word <= 17 {
+    if word <= LAST_KIND {
         if !may_begin(d, word) {
             return wrong(d);
         }
         return begun(stage(d, out), word);
     }
-    if word <= 34 {
+    if word <= LAST_FIELD {
         return chosen(d, word);
     }
-    if word == 35 {
+    if word == ABSENT {
         return put(d, 65535);
     }
-    if (word == 36) & (d.mode == 0) {
+    if (word == RAW) & (d.mode == 0) {
         return raw_begun(d);
     }
     wrong(d)
@@ -534,7 +546,7 @@ impl Draft {
     {
         Draft {
             values: [0; 15],
-            field: 15,
+            field: NO_FIELD,
             mode: 0,
             staged: 0,
             word: empty_word(),

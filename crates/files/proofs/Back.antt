@@ -14,7 +14,7 @@ use Rattle.records.specs.Stream.{takesBearers}
 use Rattle.records.specs.declared.Record.{Record}
 use Rattle.records.proofs.RoundTrip.{in-range, bytes-back, bytes-take, bytes-drop}
 use Rattle.showing.specs.declared.Sheet.{Sheet}
-use Rattle.composing.specs.Composed.{Made, made, newDraft, blankValues, takesBearer, stage, step}
+use Rattle.composing.specs.Composed.{longestEvent, Made, made, newDraft, blankValues, takesBearer, stage, step}
 use Rattle.words.specs.Values.{valuesOf}
 use Rattle.showing.specs.Shown.{endText, joins, newSheet, sheetAfter, hasWord, wordsText, rawText, recordText, eventText, restText}
 use Rattle.laws.proofs.Tests.{between}
@@ -69,7 +69,7 @@ owed-none r t =
     (λ u. on-false (takesBearers r) _ _ u)
 
 -- A new line gives the bytes of a record of a kind without a word, and no bearer follows it.
-raw-line : (bytes : List ℕ) → AreBytes bytes → length bytes ≡ 32 → hasWord (recordOf bytes .kind) ≡ false → (out : List ℕ) → length out ≡ 8224
+raw-line : (bytes : List ℕ) → AreBytes bytes → length bytes ≡ 32 → hasWord (recordOf bytes .kind) ≡ false → (out : List ℕ) → length out ≡ longestEvent
     → Onward (rawText bytes) (made newDraft out) record { owed = owedBy (recordOf bytes); begun = true } bytes
 raw-line bytes h size t out room =
     let held = holds-bytes out bytes room (omega arith) in
@@ -84,7 +84,7 @@ raw-line bytes h size t out room =
 
 -- A line ends, and what begins after it is read on a new one.
 after-end : (gap text : List ℕ) (m : Made) (s : Sheet) (line bytes : List ℕ) → Ends gap m line
-    → ((out : List ℕ) → length out ≡ 8224 → Onward text (made newDraft out) s bytes) → Onward (gap ++ text) m s (line ++ bytes)
+    → ((out : List ℕ) → length out ≡ longestEvent → Onward text (made newDraft out) s bytes) → Onward (gap ++ text) m s (line ++ bytes)
 after-end gap text m s line bytes e begins =
     let next = begins (e .left) (e .size) in
     record {
@@ -97,7 +97,7 @@ after-end gap text m s line bytes e begins =
     }
 
 -- What is left of a record is read back, and nothing comes after it.
-rest-back : (rest : List ℕ) → AreBytes rest → length rest ≤ 32 → (out : List ℕ) → length out ≡ 8224 → composedFrom (restText rest) (made newDraft out) ≡ rest
+rest-back : (rest : List ℕ) → AreBytes rest → length rest ≤ 32 → (out : List ℕ) → length out ≡ longestEvent → composedFrom (restText rest) (made newDraft out) ≡ rest
 rest-back rest h size out room =
     by-cases (eqb (length rest) 0)
     (λ t. rw t (nothing-more out room ∙ take-all 0 rest (omega (arith, eqb-true (length rest) 0 t))))
@@ -106,7 +106,7 @@ rest-back rest h size out room =
     rw t (raw-read rest h (blankValues 0) out 15 size (omega arith) (10 ∷ []) ∙ over .gives [] ∙ rw (nothing-more (over .left) (over .size)) (append-nil rest)))
 
 -- After a record's words a line is open that gives the record too.
-spoken-on : (text : List ℕ) (m : Made) (r : Record) (owed g s : ℕ) (out before : List ℕ) → InRange r → Holds s out before → s + 32 + 32 * owed ≤ 8224
+spoken-on : (text : List ℕ) (m : Made) (r : Record) (owed g s : ℕ) (out before : List ℕ) → InRange r → Holds s out before → s + 32 + 32 * owed ≤ longestEvent
     → (1 ≤ s + owed → 1 ≤ countOf (before ++ bytesOf r)) → (1 ≤ owed → takesBearer (resting (valuesOf r) g 1 s out .draft) ≡ true) → Reads text m (resting (valuesOf r) g 1 s out)
     → Onward text m record { owed = owed; begun = true } (before ++ bytesOf r)
 spoken-on text m r owed g s out before h held room counts takes read =
@@ -137,7 +137,7 @@ spoken-on text m r owed g s out before h held room counts takes read =
     }
 
 -- A record by its words begins a line.
-words-line : (r : Record) → InRange r → hasWord (r .kind) ≡ true → (out : List ℕ) → length out ≡ 8224
+words-line : (r : Record) → InRange r → hasWord (r .kind) ≡ true → (out : List ℕ) → length out ≡ longestEvent
     → Onward (wordsText r) (made newDraft out) record { owed = owedBy r; begun = true } (bytesOf r)
 unfolding stage
 words-line r h t out room =
@@ -164,7 +164,7 @@ joined r h kind {owed} {m} {line} some s =
     }
 
 -- A record begins a line.
-new-line : (bytes : List ℕ) → AreBytes bytes → length bytes ≡ 32 → (out : List ℕ) → length out ≡ 8224
+new-line : (bytes : List ℕ) → AreBytes bytes → length bytes ≡ 32 → (out : List ℕ) → length out ≡ longestEvent
     → Onward (recordText bytes) (made newDraft out) record { owed = owedBy (recordOf bytes); begun = true } bytes
 new-line bytes h size out room =
     by-cases (hasWord (recordOf bytes .kind))
@@ -172,7 +172,7 @@ new-line bytes h size out room =
     (λ t. rw t (raw-line bytes h size t out room))
 
 -- Showing a record and composing the line gives that record.
-pub one-back : (bytes out : List ℕ) → AreBytes bytes → length bytes ≡ 32 → length out ≡ 8224 → composedIn out (recordText bytes ++ (10 ∷ [])) ≡ bytes
+pub one-back : (bytes out : List ℕ) → AreBytes bytes → length bytes ≡ 32 → length out ≡ longestEvent → composedIn out (recordText bytes ++ (10 ∷ [])) ≡ bytes
 one-back bytes out h size room =
     let shown = new-line bytes h size out room in
     let line = shown .stands .ends in
@@ -210,7 +210,7 @@ records-back (suc n) bytes s m line e h o =
     rw (le-leb 32 (length bytes) (omega arith), next .gives (shownFrom n rest (sheetAfter s (recordOf one))), more, ← append-assoc (next .given) (next .line) rest, next .same) whole
 
 -- Every file comes back; the buffer has room for the longest line, a request and 256 bearers.
-pub file-back : (bytes out : List ℕ) → AreBytes bytes → length out ≡ 8224 → composedIn out (shownFile bytes) ≡ bytes
+pub file-back : (bytes out : List ℕ) → AreBytes bytes → length out ≡ longestEvent → composedIn out (shownFile bytes) ≡ bytes
 file-back bytes out h room =
     records-back (length bytes / 32) bytes newSheet (made newDraft out) [] refl h
     record { ends = record { left = out; size = room; gives = λ rest. refl }; spoken = λ l. absurd (omega arith) }

@@ -9,16 +9,17 @@ use lib.ListN.{length, getD, take, drop, length-append, length-drop, List·getD-
 use lib.Seq.{sets, sets-eq, take-at, getD-at, getD-take, length-take-le}
 use Rattle.records.specs.Record.{bytesOf, writtenAt, InRange}
 use Rattle.records.specs.declared.Record.{Record}
+use Rattle.composing.specs.Composed.{longestEvent}
 use Rattle.words.specs.Values.{valuesOf, recordFrom}
 
 -- so many bytes of the buffer are filled, and these are they
 pub record Holds (staged : ℕ) (out bytes : List ℕ) : Type 0 where
-  pub size : length out ≡ 8224
-  pub within : staged ≤ 8224
+  pub size : length out ≡ longestEvent
+  pub within : staged ≤ longestEvent
   pub front : take staged out ≡ bytes
 
 -- an empty buffer
-pub holds-none : (out : List ℕ) → length out ≡ 8224 → Holds 0 out []
+pub holds-none : (out : List ℕ) → length out ≡ longestEvent → Holds 0 out []
 holds-none out h = record { size = h; within = omega arith; front = refl }
 
 module _ {s : ℕ} {out bytes : List ℕ} (h : Holds s out bytes) where
@@ -31,7 +32,7 @@ module _ {s : ℕ} {out bytes : List ℕ} (h : Holds s out bytes) where
   holds-at i l = sym (getD-take s out i 0 l) ∙ ap (λ (b : List ℕ). getD b i 0) (h .front)
 
   -- Bytes that are put behind them are held too.
-  holds-more : (k : ℕ) (new : List ℕ) → length new ≡ k → s + k ≤ 8224 → Holds (s + k) (take s out ++ new ++ drop (s + k) out) (bytes ++ new)
+  holds-more : (k : ℕ) (new : List ℕ) → length new ≡ k → s + k ≤ longestEvent → Holds (s + k) (take s out ++ new ++ drop (s + k) out) (bytes ++ new)
   holds-more k new e room =
       let here : length (take s out) ≡ s = length-take-le s out (omega arith) in
       let both : length (take s out ++ new) ≡ s + k = rw (length-append, here, e) in
@@ -42,11 +43,11 @@ module _ {s : ℕ} {out bytes : List ℕ} (h : Holds s out bytes) where
       }
 
   -- So is a record.
-  pub holds-record : (r : Record) → s + 32 ≤ 8224 → Holds (s + 32) (writtenAt r out s) (bytes ++ bytesOf r)
+  pub holds-record : (r : Record) → s + 32 ≤ longestEvent → Holds (s + 32) (writtenAt r out s) (bytes ++ bytesOf r)
   holds-record r room = rw (le-leb (s + 32) (length out) (omega arith)) (holds-more 32 (bytesOf r) refl room)
 
 -- Bytes that are put at the front are held.
-pub holds-bytes : (out bytes : List ℕ) → length out ≡ 8224 → length bytes ≤ 8224 → Holds (length bytes) (sets out 0 bytes) bytes
+pub holds-bytes : (out bytes : List ℕ) → length out ≡ longestEvent → length bytes ≤ longestEvent → Holds (length bytes) (sets out 0 bytes) bytes
 holds-bytes out bytes h room =
     let put : sets out 0 bytes ≡ take 0 out ++ bytes ++ drop (0 + length bytes) out = sets-eq bytes out 0 (omega arith) in
     rw (put, zero-add) (rw zero-add at (holds-more (holds-none out h) (length bytes) bytes refl (omega arith)))

@@ -12,7 +12,7 @@ use Rattle.records.specs.Record.{bytesOf, writtenAt, InRange}
 use Rattle.records.specs.declared.Record.{Record}
 use Rattle.composing.specs.declared.Word.{Word}
 use Rattle.composing.specs.declared.Draft.{Draft}
-use Rattle.composing.specs.Composed.{Made, made, newDraft, emptyWord, takesBearer, lacksCount, finished, stage, settle, counted, close, step}
+use Rattle.composing.specs.Composed.{longestEvent, Made, made, newDraft, emptyWord, takesBearer, lacksCount, finished, stage, settle, counted, close, step}
 use Rattle.words.specs.Values.{valuesOf}
 use Rattle.composing.proofs.Machine.{lacks, close-on, step-end}
 use Rattle.files.specs.Files.{composedFrom}
@@ -35,14 +35,14 @@ pub record Spoken (owed : ℕ) (m : Made) (line : List ℕ) : Type 0 where
   pub settled : settle m ≡ resting (valuesOf last) field 1 staged out
   pub holds : Holds staged out before
   pub whole : before ++ bytesOf last ≡ line
-  pub room : staged + 32 + 32 * owed ≤ 8224
+  pub room : staged + 32 + 32 * owed ≤ longestEvent
   pub counts : 1 ≤ staged + owed → 1 ≤ countOf line
   pub takes : 1 ≤ owed → takesBearer (resting (valuesOf last) field 1 staged out .draft) ≡ true
 
 -- a text after which a line gives these bytes, and another begins
 pub record Ends (text : List ℕ) (m : Made) (line : List ℕ) : Type 0 where
   pub left : List ℕ
-  pub size : length left ≡ 8224
+  pub size : length left ≡ longestEvent
   pub gives : (rest : List ℕ) → composedFrom (text ++ rest) m ≡ line ++ composedFrom rest (made newDraft left)
 
 -- the last four of tests that hold together
@@ -74,7 +74,7 @@ not-lacking d out line h some =
     ))
 
 -- A record by its words is written behind those before it.
-pub written : (r : Record) → InRange r → (s f : ℕ) (w : Word) (out before : List ℕ) → Holds s out before → s + 32 ≤ 8224
+pub written : (r : Record) → InRange r → (s f : ℕ) (w : Word) (out before : List ℕ) → Holds s out before → s + 32 ≤ longestEvent
     → stage (at (valuesOf r) f 1 s w out) ≡ at (valuesOf r) f 1 (s + 32) w (writtenAt r out s)
 unfolding stage
 written r h s f w out before held room =
@@ -106,7 +106,7 @@ spoken-ends {owed} {m} {line} s =
     fed m (now .draft) (now .out) line (close-on m _ now now (s .reading) (sym (s .settled)) stood kept) (omega arith) held
 
 -- A line of bytes, and one in which nothing stands yet, stay as they are.
-still : (v : List ℕ) (f mode s : ℕ) (out : List ℕ) → length out ≡ 8224 → eqb mode 1 ≡ false → mode ≤ 2 → resting v f mode s out ≡ close (resting v f mode s out)
+still : (v : List ℕ) (f mode s : ℕ) (out : List ℕ) → length out ≡ longestEvent → eqb mode 1 ≡ false → mode ≤ 2 → resting v f mode s out ≡ close (resting v f mode s out)
 unfolding close settle stage counted
 still v f mode s out h t u = rw (le-leb mode 2 u, t, le-leb 64 (length out) (omega arith), t)
 
@@ -116,7 +116,7 @@ raw-ends {s} {out} {line} h v f =
     fed (resting v f 2 s out) (resting v f 2 s out .draft) out line (still v f 2 s out (h .size) refl (omega arith)) (omega arith) h
 
 -- The text ends where a line begins: that line gives nothing.
-pub nothing-more : (out : List ℕ) → length out ≡ 8224 → composedFrom [] (made newDraft out) ≡ []
+pub nothing-more : (out : List ℕ) → length out ≡ longestEvent → composedFrom [] (made newDraft out) ≡ []
 unfolding composedFrom
 nothing-more out h =
     rw (sym (step-end (made newDraft out) 10 newDraft (finished newDraft) out refl (still _ 15 0 0 out h refl (omega arith)) refl))

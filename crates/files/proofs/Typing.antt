@@ -4,14 +4,14 @@ use mathlib.Core.Path.{_≡_, refl, sym, _∙_}
 use mathlib.Core.Bool.{Bool, true, false, not, _&&_}
 use mathlib.Core.List.{List, [], _∷_, _++_, append-nil, append-assoc}
 use native.Mathlib.Omega.{arith}
-use borrow.Author.Tests.{le-leb, eq-eqb, ne-eqb, leb-false, eqb-true, eqb-false, not-true}
-use lib.Dec.{leb, eqb}
+use borrow.Author.Tests.{le-leb, eq-eqb, ne-eqb, leb-false, ltb-false, eqb-true, eqb-false, not-true}
+use lib.Dec.{leb, ltb, eqb}
 use lib.ListN.{getD, set}
 use Rattle.laws.proofs.Tests.{both-true, by-cases, on-true, below, below-at}
 use Rattle.buffers.specs.Digits.{sizeIn, size, digits}
 use Rattle.composing.specs.declared.Word.{Word}
-use Rattle.words.specs.Words.{isSame, placeIn, placeOf, trimmed, wordAt}
-use Rattle.composing.specs.Composed.{isGap, takesDigit, longer, emptyWord, pushed, blankValues, limits, fields, added, nextField, put, begun, chosen, mayBegin, Made, stage, understood, settle, step}
+use Rattle.words.specs.Words.{lastKind, lastField, rawWord, isSame, placeIn, placeOf, trimmed, wordAt}
+use Rattle.composing.specs.Composed.{isGap, tenth, takesDigit, longer, emptyWord, pushed, blankValues, limits, fields, added, nextField, put, begun, chosen, mayBegin, Made, stage, understood, settle, step}
 use Rattle.composing.proofs.Machine.{a-kind, a-field, settle-number, settle-word, typed-on, step-gap, step-typed}
 use Rattle.files.proofs.Leading.{at, resting, Leads, leads-on, leads-to, no-gap, Reads}
 
@@ -83,11 +83,11 @@ record Spells (w : Word) (n : ℕ) : Type 0 where
 takes-last : (n : ℕ) → n < 2 ^ 64 → takesDigit (n / 10) (48 + n % 10) ≡ true
 takes-last n small =
     rw (le-leb 48 (48 + n % 10) (omega arith), le-leb (48 + n % 10) 57 (omega arith))
-    (by-cases (leb (n / 10) 1844674407370955160)
+    (by-cases (ltb (n / 10) tenth)
     (λ t. rw t)
     (λ t.
-    let over = leb-false (n / 10) 1844674407370955160 t in
-    rw (t, eq-eqb (n / 10) 1844674407370955161 (omega arith), le-leb (48 + n % 10) 53 (omega arith))))
+    let over = ltb-false (n / 10) tenth t in
+    rw (t, eq-eqb (n / 10) tenth (omega arith), le-leb (48 + n % 10) 53 (omega arith))))
 
 -- A word with a byte more is not empty.
 longer-some : (n : ℕ) → 1 ≤ longer n
@@ -180,7 +180,7 @@ module _ (values : List ℕ) (field mode staged : ℕ) (out : List ℕ) where
     types-word text n t e = record { end = line (typedAll emptyWord text); leads = types-all text emptyWord t; settled = sym e; reading = omega arith }
 
     -- A word of the table is understood.
-    pub word-read : (k : ℕ) → k ≤ 36 → (n : Made) → n ≡ understood (line (wordOf k)) k → Reads (wordAt k) (line emptyWord) n
+    pub word-read : (k : ℕ) → k ≤ rawWord → (n : Made) → n ≡ understood (line (wordOf k)) k → Reads (wordAt k) (line emptyWord) n
     word-read k h n e =
         let w = wordOf k in
         let all = both-true (allPlain (wordAt k) && not (eqb (w .size) 0) && not (w .number)) _ (below-at 37 isRead k all-read (omega arith)) in
@@ -195,7 +195,7 @@ module _ (values : List ℕ) (field mode staged : ℕ) (out : List ℕ) where
         e)
 
     -- A kind's word begins a record where it may, and what was filled before it is written.
-    pub kind-read : (k after : ℕ) (left : List ℕ) → k ≤ 17 → mayBegin (line emptyWord .draft) k ≡ true → ((w : Word) → stage (line w) ≡ at values field mode after w left)
+    pub kind-read : (k after : ℕ) (left : List ℕ) → k ≤ lastKind → mayBegin (line emptyWord .draft) k ≡ true → ((w : Word) → stage (line w) ≡ at values field mode after w left)
         → Reads (wordAt k) (line emptyWord) (resting (blankValues k) (getD fields k 0) 1 after left)
     unfolding begun
     kind-read k after left h may s =
@@ -219,7 +219,7 @@ module _ (values : List ℕ) (field mode staged : ℕ) (out : List ℕ) where
         (rw (s .value, le-leb field 14 h, le-leb n (getD limits field 0) fits)))
 
 -- A field's word names the field that takes the next number.
-pub field-read : (values : List ℕ) (field staged : ℕ) (out : List ℕ) (k : ℕ) → 17 < k → k ≤ 34
+pub field-read : (values : List ℕ) (field staged : ℕ) (out : List ℕ) (k : ℕ) → lastKind < k → k ≤ lastField
     → Reads (wordAt k) (resting values field 1 staged out) (resting values (getD fields k 0) 1 staged out)
 unfolding chosen
 field-read values field staged out k g h =

@@ -6,13 +6,14 @@ use mathlib.Core.List.{List, [], _∷_, _++_}
 use lib.Dec.{leb}
 use lib.ListN.{length, getD, take, drop}
 use Rattle.showing.specs.declared.Sheet.{Sheet}
+use Rattle.showing.specs.Room.{eventRoom}
 use Rattle.showing.specs.Shown.{newSheet, shownOf, shownText, lastText}
 use Rattle.composing.specs.Composed.{Made, made, step, newDraft}
 
 -- so many records one after the other, then what is left, each shown in a buffer that has room for any
 unfoldable pub shownFrom : ℕ → List ℕ → Sheet → List ℕ
-shownFrom zero bytes s = lastText 4959 bytes s
-shownFrom (suc n) bytes s = shownText 4959 bytes s ++ shownFrom n (drop 32 bytes) (shownOf 4959 bytes s .sheet)
+shownFrom zero bytes s = lastText eventRoom bytes s
+shownFrom (suc n) bytes s = shownText eventRoom bytes s ++ shownFrom n (drop 32 bytes) (shownOf eventRoom bytes s .sheet)
 
 -- what a file of records is shown as
 abbrev pub shownFile : List ℕ → List ℕ

@@ -17,9 +17,10 @@ use Rattle.table.specs.declared.Answer.{Answer}
 use Rattle.table.specs.declared.Station.{Station}
 use Rattle.table.specs.Reached.{Reached}
 use Rattle.lines.specs.declared.Run.{Run}
-use Rattle.lines.specs.Lines.{lineOf, isWhole, answerTo, Work, goesOn, onward, workOn, workOf, progress}
+use Rattle.lines.specs.Lines.{longest, lineOf, isWhole, answerTo, Work, goesOn, onward, workOn, workOf, progress}
 use Rattle.lines.proofs.Longest.{line-most}
 use Rattle.lines.proofs.Going.{some-byte, goes, stops}
+use Rattle.buffers.specs.Buffers.{Writes}
 use Rattle.buffers.proofs.Writing.{joined}
 
 -- the part of a block from a place on
@@ -38,9 +39,8 @@ pub record Head (bytes : List ℕ) (ended : Bool) (buffer : List ℕ) (run : Run
   pub reached : Reached station
   pub within-block : taken ≤ length bytes
   pub enough : length bytes ≤ taken + most
-  pub size : written ≡ length text
   pub within-buffer : written ≤ length buffer
-  pub wrote : out ≡ sets buffer 0 text
+  pub wrote : Writes buffer out 0 text written
   pub goes-on : workOn most ended (length buffer) bytes (working station place taken text) ≡ workOf ended (length buffer) bytes run
 
 module _ {bytes : List ℕ} {ended : Bool} {buffer : List ℕ} {run : Run} {out : List ℕ} {station : Station} {place taken written : ℕ} {piece : Piece}
@@ -48,31 +48,34 @@ module _ {bytes : List ℕ} {ended : Bool} {buffer : List ℕ} {run : Run} {out 
   pub size-left : piece .size ≤ length bytes - taken
   size-left = rw (head .front) (omega (arith, cutting.onward (drop taken bytes) .0, length-drop taken bytes))
 
+  size-written : written ≡ length (head .text)
+  size-written = head .wrote .next ∙ zero-add _
+
   pub same-length : length out ≡ length buffer
-  same-length = ap length (head .wrote) ∙ length-sets buffer 0 (head .text)
+  same-length = ap length (head .wrote .bytes) ∙ length-sets buffer 0 (head .text)
 
   -- What was found of the piece, and of the room with it, is the definition's test.
   module _ {whole : Bool} (found : whole ≡ isWhole ended piece) where
-    tested : (whole && leb 189 (length out - written)) ≡ goesOn ended (length buffer) bytes (working station place taken (head .text))
-    tested = rw (found, head .front, same-length, head .size)
+    tested : (whole && leb longest (length out - written)) ≡ goesOn ended (length buffer) bytes (working station place taken (head .text))
+    tested = rw (found, head .front, same-length, size-written)
 
-    pub returned : (whole && leb 189 (length out - written)) ≡ false
+    pub returned : (whole && leb longest (length out - written)) ≡ false
         → (record { run = record { station = station; place = place }; taken = taken; written = written } ≡ progress (workOf ended (length buffer) bytes run))
         × (out ≡ sets buffer 0 (workOf ended (length buffer) bytes run .text))
         × Reached station
     returned t =
         let done = sym (stops (head .most) ended (length buffer) bytes (working station place taken (head .text)) (sym tested ∙ t)) ∙ head .goes-on in (
-          ap (λ (k : ℕ). record { run = record { station = station; place = place }; taken = taken; written = k }) (head .size) ∙ ap progress done,
-          head .wrote ∙ ap (λ (w : Work). sets buffer 0 (w .text)) done,
+          ap (λ (k : ℕ). record { run = record { station = station; place = place }; taken = taken; written = k }) size-written ∙ ap progress done,
+          head .wrote .bytes ∙ ap (λ (w : Work). sets buffer 0 (w .text)) done,
           head .reached,
         )
 
-    module _ (t : (whole && leb 189 (length out - written)) ≡ true) where
-      both : (whole ≡ true) × (leb 189 (length out - written) ≡ true)
-      both = both-true whole (leb 189 (length out - written)) t
+    module _ (t : (whole && leb longest (length out - written)) ≡ true) where
+      both : (whole ≡ true) × (leb longest (length out - written) ≡ true)
+      both = both-true whole (leb longest (length out - written)) t
 
-      pub has-room : written + 189 ≤ length out
-      has-room = omega (arith, leb-true 189 (length out - written) (both .1))
+      pub has-room : written + longest ≤ length out
+      has-room = omega (arith, leb-true longest (length out - written) (both .1))
 
       pub some : 0 < piece .size
       some = rw (head .front) (some-byte ended (drop taken bytes) (rw (head .front) at (sym found ∙ both .0)))
@@ -80,11 +83,11 @@ module _ {bytes : List ℕ} {ended : Bool} {buffer : List ℕ} {run : Run} {out 
       -- One event: the next head, from what the turn's calls gave.
       pub turned : (left : List ℕ) (a : Answer) (room place' end : ℕ) (piece' : Piece) → room ≡ 256
           → a ≡ answerTo room station (take (taken + piece .size - taken) (drop taken bytes)) → Reached (a .station)
-          → end ≡ written + length (lineOf place (a .outcome)) → left ≡ sets out written (lineOf place (a .outcome))
+          → Writes out left written (lineOf place (a .outcome)) end
           → place' ≡ (place + 1) % 2 ^ 64
           → piece' ≡ pieceOf (take (length bytes - (taken + piece .size)) (drop (taken + piece .size) bytes))
           → Head bytes ended buffer run left (a .station) place' (taken + piece .size) end piece'
-      turned left a room place' end piece' lent answer reached ends writes counts next =
+      turned left a room place' end piece' lent answer reached wrote counts next =
           let rest = drop taken bytes in
           let size = piece .size in
           let line = lineOf place (a .outcome) in
@@ -96,7 +99,6 @@ module _ {bytes : List ℕ} {ended : Bool} {buffer : List ℕ} {run : Run} {out 
           let given : a ≡ answerTo 256 station (firstOf rest) = answer ∙ rw (lent, event) in
           let further : head .most ≡ suc most = omega (arith, some, size-left) in
           let moved : working (a .station) place' (taken + size) (head .text ++ line) ≡ onward bytes w = rw (given, counts, sized) in
-          let written = joined buffer out left 0 written end (head .text) line (head .size ∙ sym (zero-add _)) (head .wrote) ends writes in
           record {
             text = head .text ++ line;
             most = most;
@@ -104,9 +106,8 @@ module _ {bytes : List ℕ} {ended : Bool} {buffer : List ℕ} {run : Run} {out 
             reached = reached;
             within-block = omega (arith, size-left);
             enough = omega (arith, some);
-            size = written .0 ∙ zero-add _;
             within-buffer = omega (arith, line-most place (a .outcome), has-room, same-length);
-            wrote = written .1;
+            wrote = joined (head .wrote) wrote;
             goes-on =
                 ap (workOn most ended (length buffer) bytes) moved
                 ∙ sym (goes most ended (length buffer) bytes w (sym tested ∙ t))

@@ -1,10 +1,10 @@
 -- The lines of the station program, one for each event of a stream.
-use Prim.Native.Nat.{ℕ, zero, suc, _+_, _-_, _%_, _^_}
+use Prim.Native.Nat.{ℕ, zero, suc, _+_, _*_, _-_, _%_, _^_}
 use mathlib.Core.Bool.{Bool, cond, _&&_, _||_}
 use mathlib.Core.List.{List, [], _∷_, _++_}
 use lib.Dec.{leb, ltb}
 use lib.ListN.{length, take, drop}
-use Rattle.buffers.specs.Digits.{cell, spaced}
+use Rattle.buffers.specs.Digits.{cellRoom, cell, spaced}
 use Rattle.records.specs.Stream.{pieceOf, firstOf}
 use Rattle.records.specs.declared.stream.Piece.{Piece}
 use Rattle.table.specs.declared.Answer.{Answer}
@@ -30,6 +30,10 @@ firstEight place o =
 
 abbrev pub lineOf : ℕ → Outcome → List ℕ
 lineOf place o = spaced (firstEight place o) ++ cell (o .ending) 10
+
+-- the longest line has so many bytes: nine numbers, and a byte after each
+abbrev pub longest : ℕ
+longest = 9 * cellRoom
 
 -- whether what stands at the front is an event: whatever comes after, or because nothing does
 abbrev pub isWhole : Bool → Piece → Bool
@@ -74,7 +78,7 @@ beginning run = record { run = run; taken = 0; text = [] }
 -- it goes on while a whole event stands there and the buffer has room for the longest line
 abbrev pub goesOn : Bool → ℕ → List ℕ → Work → Bool
 goesOn ended room bytes w =
-    isWhole ended (pieceOf (drop (w .taken) bytes)) && leb 189 (room - length (w .text))
+    isWhole ended (pieceOf (drop (w .taken) bytes)) && leb longest (room - length (w .text))
 
 -- one event
 abbrev pub onward : List ℕ → Work → Work

@@ -15,8 +15,9 @@ ghost use mathlib.Core.Path.{_≡_};
 ghost use Prim.Native.Nat.{_+_, _≤_};
 ghost use lib.ListN.{length};
 ghost use lib.Seq.{sets};
+ghost use Rattle.buffers.specs.Buffers.{Writes};
 ghost use Rattle.table.specs.Reached.{Reached};
-ghost use Rattle.lines.specs.Lines.{lineOf, isWhole, answerTo, verdictsTo, newRun, workOf, progress};
+ghost use Rattle.lines.specs.Lines.{longest, lineOf, isWhole, answerTo, verdictsTo, newRun, workOf, progress};
 
 // The longest line: nine numbers of at most 20 digits, and a byte after each.
 pub const LONGEST: usize = 189;
@@ -36,8 +37,8 @@ pub struct Progress {
 
 // Writes a line from a place on, and answers the next place.
 fn line(place: u64, o: Outcome, out: &mut [u8], at: usize) -> usize
-    requires { ⌜ at + 189 ≤ length (now out) ⌝ }
-    ensures { λ r. ⌜ (r ≡ at + length (lineOf place o)) × (now (out .exit) ≡ sets (now (out .entry)) at (lineOf place o)) ⌝ }
+    requires { ⌜ at + longest ≤ length (now out) ⌝ }
+    ensures { λ r. ⌜ Writes (now (out .entry)) (now (out .exit)) at (lineOf place o) r ⌝ }
 {
     let m = o.message;
     let old = m.old;

@@ -3,6 +3,7 @@ use buffers::carry;
 use libc::STDERR_FILENO;
 use libc::STDIN_FILENO;
 use libc::STDOUT_FILENO;
+use showing::ROOM;
 use showing::Sheet;
 
 // A run between two reads: how many bytes the input buffer holds, and whether there is more to do.
@@ -83,7 +84,7 @@ fn turn(s: Stage, input: &mut [u8], output: &mut [u8]) -> Stage {
 
 fn main() {
     let mut input = io::large_buffer();
-    let mut output = [0u8; 4959];
+    let mut output = [0u8; ROOM];
     let sheet = Sheet::new();
     let mut s = Stage {
         sheet,

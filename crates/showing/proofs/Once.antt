@@ -6,7 +6,7 @@ use lib.ListN.{length}
 use lib.Seq.{sets}
 use Rattle.showing.specs.declared.Sheet.{Sheet}
 use Rattle.showing.specs.declared.Shown.{Shown}
-use Rattle.showing.specs.Shown.{newSheet, shownOf, shownText, lastText}
+use Rattle.showing.specs.Shown.{newSheet, shownOf, shownText}
 
 -- There is one sheet at the beginning.
 pub sheet-once : (a b : Sheet) → a ≡ newSheet → b ≡ newSheet → a ≡ b
@@ -18,9 +18,3 @@ pub show-once : (s : Sheet) (bytes out : List ℕ) (a b : Shown) (v w : List ℕ
     → (b ≡ shownOf (length out) bytes s) × (w ≡ sets out 0 (shownText (length out) bytes s))
     → (a ≡ b) × (v ≡ w)
 show-once s bytes out a b v w p q = (p .0 ∙ sym (q .0), p .1 ∙ sym (q .1))
-
-pub finish-once : (s : Sheet) (rest out : List ℕ) (a b : ℕ) (v w : List ℕ)
-    → (a ≡ length (lastText (length out) rest s)) × (v ≡ sets out 0 (lastText (length out) rest s))
-    → (b ≡ length (lastText (length out) rest s)) × (w ≡ sets out 0 (lastText (length out) rest s))
-    → (a ≡ b) × (v ≡ w)
-finish-once s rest out a b v w p q = (p .0 ∙ sym (q .0), p .1 ∙ sym (q .1))

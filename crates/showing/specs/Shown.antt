@@ -9,10 +9,11 @@ use Rattle.buffers.specs.Digits.{size, digits}
 use Rattle.records.specs.Record.{recordOf}
 use Rattle.records.specs.Stream.{takesBearers}
 use Rattle.records.specs.declared.Record.{Record}
+use Rattle.showing.specs.Room.{eventRoom, lastRoom}
 use Rattle.showing.specs.declared.Sheet.{Sheet}
 use Rattle.showing.specs.declared.Shown.{Shown}
 use Rattle.words.specs.Values.{isSet, valuesOf}
-use Rattle.words.specs.Words.{wordAt}
+use Rattle.words.specs.Words.{lastKind, rawWord, wordAt}
 
 -- a space and a number, a space and a word
 abbrev pub numberText : ℕ → List ℕ
@@ -32,11 +33,11 @@ idsText s k (suc n) = idText s k ++ idsText s (suc k) n
 
 -- whether a kind has a word of its own
 abbrev pub hasWord : ℕ → Bool
-hasWord kind = leb 1 kind && leb kind 17
+hasWord kind = leb 1 kind && leb kind lastKind
 
 -- a field's word: the number of a request is a count, that of a bearer its units
 abbrev pub fieldWord : ℕ → ℕ → ℕ
-fieldWord kind f = cond (eqb f 8 && eqb kind 1) 33 (cond (eqb f 8 && eqb kind 16) 32 (17 + f))
+fieldWord kind f = cond (eqb f 8 && eqb kind 1) 33 (cond (eqb f 8 && eqb kind 16) 32 (lastKind + f))
 
 abbrev pub valueText : ℕ → ℕ → List ℕ
 valueText f v = cond (isSet f) (idsText (v % 65536) 0 16) (numberText v)
@@ -64,7 +65,7 @@ bytesText (b ∷ bs) = hexDigit (b / 16) ∷ hexDigit (b % 16) ∷ bytesText bs
 
 -- "raw and its hex digits"
 abbrev pub rawText : List ℕ → List ℕ
-rawText bytes = wordAt 36 ++ (32 ∷ bytesText bytes)
+rawText bytes = wordAt rawWord ++ (32 ∷ bytesText bytes)
 
 -- the 32 bytes of a record: "odd records come out as raw", those of a kind that has no word
 abbrev pub recordText : List ℕ → List ℕ
@@ -90,7 +91,7 @@ newSheet = record { owed = 0; begun = false }
 
 -- whether a record is shown: it is whole, and any record's text has room
 abbrev pub isShown : ℕ → List ℕ → Bool
-isShown room bytes = leb 32 (length bytes) && leb 4959 room
+isShown room bytes = leb 32 (length bytes) && leb eventRoom room
 
 abbrev pub shownText : ℕ → List ℕ → Sheet → List ℕ
 shownText room bytes s = cond (isShown room bytes) (eventText s (take 32 bytes)) []
@@ -116,4 +117,4 @@ abbrev pub closingText : List ℕ → Sheet → List ℕ
 closingText rest s = endText (s .begun) ++ restText rest
 
 abbrev pub lastText : ℕ → List ℕ → Sheet → List ℕ
-lastText room rest s = cond (leb (length rest) 31 && leb 96 room) (closingText rest s) []
+lastText room rest s = cond (leb (length rest) 31 && leb lastRoom room) (closingText rest s) []

@@ -4,6 +4,8 @@ use buffers::digits::spell;
 use records::Read;
 use records::Record;
 use sets::member;
+use words::LAST_KIND;
+use words::RAW;
 use words::values::is_set;
 use words::values::values_of;
 use words::write_word;
@@ -11,9 +13,20 @@ ghost use mathlib.Core.Path.{_≡_};
 ghost use Prim.Native.Nat.{_+_, _*_, _≤_, _<_};
 ghost use lib.ListN.{length, take, drop};
 ghost use lib.Seq.{sets};
+ghost use Rattle.buffers.specs.Buffers.{Writes};
+ghost use Rattle.buffers.specs.Digits.{cellRoom};
 ghost use Rattle.records.specs.Record.{recordOf};
 ghost use Rattle.records.specs.Stream.{takesBearers};
+ghost use Rattle.words.specs.Values.{fieldCount};
+ghost use Rattle.words.specs.Words.{lastKind, lastField, rawWord};
+ghost use Rattle.showing.specs.Room.{spacedRoom, valueRoom, fieldRoom, fieldsRoom, recordRoom, eventRoom};
 ghost use Rattle.showing.specs.Shown.{numberText, spacedWord, idText, idsText, hasWord, fieldWord, valueText, fieldText, fieldsText, wordsText, hexDigit, bytesText, rawText, recordText, joins, owedAfter, gapText, eventText, newSheet, shownOf, shownText, endText, restText, lastText};
+
+// So many bytes have room for any record's text and what stands before it.
+pub const ROOM: usize = 4959;
+
+// So many have room for what ends the text.
+const LAST_ROOM: usize = 96;
 
 // Between two records: how many bearers the last request may still take, and whether a line is open.
 pub struct Sheet {
@@ -23,8 +36,8 @@ pub struct Sheet {
 
 // Writes a space and a number, and answers the next place.
 fn write_number(n: u64, out: &mut [u8], at: usize) -> usize
-    requires { ⌜ at + 21 ≤ length (now out) ⌝ }
-    ensures { λ r. ⌜ (r ≡ at + length (numberText n)) × (now (out .exit) ≡ sets (now (out .entry)) at (numberText n)) × (r ≤ at + 21) ⌝ }
+    requires { ⌜ at + cellRoom ≤ length (now out) ⌝ }
+    ensures { λ r. ⌜ Writes (now (out .entry)) (now (out .exit)) at (numberText n) r × (r ≤ at + cellRoom) ⌝ }
 {
     let k = size(n);
     let next = at + 1;
@@ -35,8 +48,8 @@ fn write_number(n: u64, out: &mut [u8], at: usize) -> usize
 
 // Writes a space and a word.
 fn write_spaced(word: usize, out: &mut [u8], at: usize) -> usize
-    requires { ⌜ (word ≤ 36) × (at + 17 ≤ length (now out)) ⌝ }
-    ensures { λ r. ⌜ (r ≡ at + length (spacedWord word)) × (now (out .exit) ≡ sets (now (out .entry)) at (spacedWord word)) × (r ≤ at + 17) ⌝ }
+    requires { ⌜ (word ≤ rawWord) × (at + spacedRoom ≤ length (now out)) ⌝ }
+    ensures { λ r. ⌜ Writes (now (out .entry)) (now (out .exit)) at (spacedWord word) r × (r ≤ at + spacedRoom) ⌝ }
 {
     out[at] = 32;
     write_word(word, out, at + 1)
@@ -44,8 +57,8 @@ fn write_spaced(word: usize, out: &mut [u8], at: usize) -> usize
 
 // Writes an ID, if it is in a set.
 fn write_id(set: u16, id: u8, out: &mut [u8], at: usize) -> usize
-    requires { ⌜ at + 21 ≤ length (now out) ⌝ }
-    ensures { λ r. ⌜ (r ≡ at + length (idText set id)) × (now (out .exit) ≡ sets (now (out .entry)) at (idText set id)) × (r ≤ at + 21) ⌝ }
+    requires { ⌜ at + cellRoom ≤ length (now out) ⌝ }
+    ensures { λ r. ⌜ Writes (now (out .entry)) (now (out .exit)) at (idText set id) r × (r ≤ at + cellRoom) ⌝ }
 {
     if member(set, id) {
         return write_number(id as u64, out, at);
@@ -55,8 +68,8 @@ fn write_id(set: u16, id: u8, out: &mut [u8], at: usize) -> usize
 
 // Writes the IDs of a set.
 fn write_ids(set: u16, out: &mut [u8], at: usize) -> usize
-    requires { ⌜ at + 336 ≤ length (now out) ⌝ }
-    ensures { λ r. ⌜ (r ≡ at + length (idsText set 0 16)) × (now (out .exit) ≡ sets (now (out .entry)) at (idsText set 0 16)) × (r ≤ at + 336) ⌝ }
+    requires { ⌜ at + valueRoom ≤ length (now out) ⌝ }
+    ensures { λ r. ⌜ Writes (now (out .entry)) (now (out .exit)) at (idsText set 0 16) r × (r ≤ at + valueRoom) ⌝ }
 {
     let mut place = at;
     for id in 0..16u8 {
@@ -69,13 +82,13 @@ fn write_ids(set: u16, out: &mut [u8], at: usize) -> usize
 fn has_word(kind: u8) -> bool
     ensures { λ r. ⌜ r ≡ hasWord kind ⌝ }
 {
-    (1 <= kind) & (kind <= 17)
+    (1 <= kind) & (kind as usize <= LAST_KIND)
 }
 
 // The word of a field: the number of a request is a count, that of a bearer its units.
 fn field_word(kind: u8, field: usize) -> usize
-    requires { ⌜ field ≤ 14 ⌝ }
-    ensures { λ r. ⌜ (r ≡ fieldWord kind field) × (r ≤ 34) ⌝ }
+    requires { ⌜ field < fieldCount ⌝ }
+    ensures { λ r. ⌜ (r ≡ fieldWord kind field) × (r ≤ lastField) ⌝ }
 {
     if (field == 8) & (kind == 1) {
         return 33;
@@ -83,13 +96,13 @@ fn field_word(kind: u8, field: usize) -> usize
     if (field == 8) & (kind == 16) {
         return 32;
     }
-    17 + field
+    LAST_KIND + field
 }
 
 // Writes what a field holds.
 fn write_value(field: usize, value: u64, out: &mut [u8], at: usize) -> usize
-    requires { ⌜ at + 336 ≤ length (now out) ⌝ }
-    ensures { λ r. ⌜ (r ≡ at + length (valueText field value)) × (now (out .exit) ≡ sets (now (out .entry)) at (valueText field value)) × (r ≤ at + 336) ⌝ }
+    requires { ⌜ at + valueRoom ≤ length (now out) ⌝ }
+    ensures { λ r. ⌜ Writes (now (out .entry)) (now (out .exit)) at (valueText field value) r × (r ≤ at + valueRoom) ⌝ }
 {
     if is_set(field) {
         return write_ids((value % 65536) as u16, out, at);
@@ -99,8 +112,8 @@ fn write_value(field: usize, value: u64, out: &mut [u8], at: usize) -> usize
 
 // Writes a field, if it is not zero.
 fn write_field(kind: u8, field: usize, value: u64, out: &mut [u8], at: usize) -> usize
-    requires { ⌜ (field ≤ 14) × (at + 353 ≤ length (now out)) ⌝ }
-    ensures { λ r. ⌜ (r ≡ at + length (fieldText kind field value)) × (now (out .exit) ≡ sets (now (out .entry)) at (fieldText kind field value)) × (r ≤ at + 353) ⌝ }
+    requires { ⌜ (field < fieldCount) × (at + fieldRoom ≤ length (now out)) ⌝ }
+    ensures { λ r. ⌜ Writes (now (out .entry)) (now (out .exit)) at (fieldText kind field value) r × (r ≤ at + fieldRoom) ⌝ }
 {
     if value == 0 {
         return at;
@@ -111,8 +124,8 @@ fn write_field(kind: u8, field: usize, value: u64, out: &mut [u8], at: usize) ->
 
 // Writes the fields after the kind.
 fn write_fields(values: [u64; 15], kind: u8, out: &mut [u8], at: usize) -> usize
-    requires { ⌜ at + 4942 ≤ length (now out) ⌝ }
-    ensures { λ r. ⌜ (r ≡ at + length (fieldsText kind 1 (drop 1 values))) × (now (out .exit) ≡ sets (now (out .entry)) at (fieldsText kind 1 (drop 1 values))) × (r ≤ at + 4942) ⌝ }
+    requires { ⌜ at + fieldsRoom ≤ length (now out) ⌝ }
+    ensures { λ r. ⌜ Writes (now (out .entry)) (now (out .exit)) at (fieldsText kind 1 (drop 1 values)) r × (r ≤ at + fieldsRoom) ⌝ }
 {
     let mut place = at;
     for f in 1..15usize {
@@ -123,8 +136,8 @@ fn write_fields(values: [u64; 15], kind: u8, out: &mut [u8], at: usize) -> usize
 
 // Writes a record by its words.
 fn write_words(r: Record, out: &mut [u8], at: usize) -> usize
-    requires { ⌜ (r .kind ≤ 17) × (at + 4958 ≤ length (now out)) ⌝ }
-    ensures { λ n. ⌜ (n ≡ at + length (wordsText r)) × (now (out .exit) ≡ sets (now (out .entry)) at (wordsText r)) × (n ≤ at + 4958) ⌝ }
+    requires { ⌜ (r .kind ≤ lastKind) × (at + recordRoom ≤ length (now out)) ⌝ }
+    ensures { λ n. ⌜ Writes (now (out .entry)) (now (out .exit)) at (wordsText r) n × (n ≤ at + recordRoom) ⌝ }
 {
     let values = values_of(r);
     let next = write_word(r.kind as usize, out, at);
@@ -156,10 +169,10 @@ fn write_bytes(bytes: &[u8], out: &mut [u8], at: usize)
 
 // Writes bytes as they stand: the word for them, and their digits.
 fn write_raw(bytes: &[u8], out: &mut [u8], at: usize) -> usize
-    requires { ⌜ at + 17 + 2 * length (now bytes) ≤ length (now out) ⌝ }
-    ensures { λ r. ⌜ (r ≡ at + length (rawText (now (bytes .entry)))) × (now (out .exit) ≡ sets (now (out .entry)) at (rawText (now (bytes .entry)))) × (r ≤ at + 17 + 2 * length (now (bytes .entry))) ⌝ }
+    requires { ⌜ at + spacedRoom + 2 * length (now bytes) ≤ length (now out) ⌝ }
+    ensures { λ r. ⌜ Writes (now (out .entry)) (now (out .exit)) at (rawText (now (bytes .entry))) r × (r ≤ at + spacedRoom + 2 * length (now (bytes .entry))) ⌝ }
 {
-    let next = write_word(36, out, at);
+    let next = write_word(RAW, out, at);
     out[next] = 32;
     let from = next + 1;
     write_bytes(bytes, out, from);
@@ -168,8 +181,8 @@ fn write_raw(bytes: &[u8], out: &mut [u8], at: usize) -> usize
 
 // Writes the record of 32 bytes: by its words, or as it stands where its kind has none.
 fn write_record(r: Record, bytes: &[u8], out: &mut [u8], at: usize) -> usize
-    requires { ⌜ (length (now bytes) ≡ 32) × (r ≡ recordOf (now bytes)) × (at + 4958 ≤ length (now out)) ⌝ }
-    ensures { λ n. ⌜ (n ≡ at + length (recordText (now (bytes .entry)))) × (now (out .exit) ≡ sets (now (out .entry)) at (recordText (now (bytes .entry)))) × (n ≤ at + 4958) ⌝ }
+    requires { ⌜ (length (now bytes) ≡ 32) × (r ≡ recordOf (now bytes)) × (at + recordRoom ≤ length (now out)) ⌝ }
+    ensures { λ n. ⌜ Writes (now (out .entry)) (now (out .exit)) at (recordText (now (bytes .entry))) n × (n ≤ at + recordRoom) ⌝ }
 {
     if has_word(r.kind) {
         return write_words(r, out, at);
@@ -207,7 +220,7 @@ fn owed_after(s: Sheet, r: Record) -> u32
 // Writes what stands before a record: a space before a bearer of the open line, a line feed where another line is open.
 fn write_gap(s: Sheet, r: Record, out: &mut [u8], at: usize) -> usize
     requires { ⌜ at + 1 ≤ length (now out) ⌝ }
-    ensures { λ n. ⌜ (n ≡ at + length (gapText s r)) × (now (out .exit) ≡ sets (now (out .entry)) at (gapText s r)) × (n ≤ at + 1) ⌝ }
+    ensures { λ n. ⌜ Writes (now (out .entry)) (now (out .exit)) at (gapText s r) n × (n ≤ at + 1) ⌝ }
 {
     if joins(s, r) {
         out[at] = 32;
@@ -222,8 +235,8 @@ fn write_gap(s: Sheet, r: Record, out: &mut [u8], at: usize) -> usize
 
 // Writes the record of 32 bytes, and what stands before it.
 fn write_event(s: Sheet, r: Record, bytes: &[u8], out: &mut [u8]) -> usize
-    requires { ⌜ (length (now bytes) ≡ 32) × (r ≡ recordOf (now bytes)) × (4959 ≤ length (now out)) ⌝ }
-    ensures { λ n. ⌜ (n ≡ length (eventText s (now (bytes .entry)))) × (now (out .exit) ≡ sets (now (out .entry)) 0 (eventText s (now (bytes .entry)))) ⌝ }
+    requires { ⌜ (length (now bytes) ≡ 32) × (r ≡ recordOf (now bytes)) × (eventRoom ≤ length (now out)) ⌝ }
+    ensures { λ n. ⌜ Writes (now (out .entry)) (now (out .exit)) 0 (eventText s (now (bytes .entry))) n ⌝ }
 {
     let next = write_gap(s, r, out, 0);
     write_record(r, bytes, out, next)
@@ -264,7 +277,7 @@ impl Sheet {
         ensures { λ r. ⌜ (r ≡ shownOf (length (now (out .entry))) (now (bytes .entry)) self) × (now (out .exit) ≡ sets (now (out .entry)) 0 (shownText (length (now (out .entry))) (now (bytes .entry)) self)) ⌝ }
     {
         let s = self;
-        if (32 <= bytes.len()) & (4959 <= out.len()) {
+        if (32 <= bytes.len()) & (ROOM <= out.len()) {
             let r = record_at(bytes);
             let written = write_event(s, r, &bytes[..32], out);
             let sheet = Sheet {
@@ -286,9 +299,9 @@ impl Sheet {
 
     // Ends the open line, and shows what is left of a record.
     pub fn finish(self, rest: &[u8], out: &mut [u8]) -> usize
-        ensures { λ r. ⌜ (r ≡ length (lastText (length (now (out .entry))) (now (rest .entry)) self)) × (now (out .exit) ≡ sets (now (out .entry)) 0 (lastText (length (now (out .entry))) (now (rest .entry)) self)) ⌝ }
+        ensures { λ r. ⌜ Writes (now (out .entry)) (now (out .exit)) 0 (lastText (length (now (out .entry))) (now (rest .entry)) self) r ⌝ }
     {
-        if !((rest.len() <= 31) & (96 <= out.len())) {
+        if !((rest.len() <= 31) & (LAST_ROOM <= out.len())) {
             return 0;
         }
         let at = write_end(self.begun, out);
@@ -299,7 +312,7 @@ impl Sheet {
 // Writes a line feed, if a line is open.
 fn write_end(begun: bool, out: &mut [u8]) -> usize
     requires { ⌜ 1 ≤ length (now out) ⌝ }
-    ensures { λ r. ⌜ (r ≡ length (endText begun)) × (now (out .exit) ≡ sets (now (out .entry)) 0 (endText begun)) × (r ≤ 1) ⌝ }
+    ensures { λ r. ⌜ Writes (now (out .entry)) (now (out .exit)) 0 (endText begun) r × (r ≤ 1) ⌝ }
 {
     if begun {
         out[0] = 10;
@@ -310,8 +323,8 @@ fn write_end(begun: bool, out: &mut [u8]) -> usize
 
 // Writes what is left of a record as a line of its own.
 fn write_rest(rest: &[u8], out: &mut [u8], at: usize) -> usize
-    requires { ⌜ at + 18 + 2 * length (now rest) ≤ length (now out) ⌝ }
-    ensures { λ r. ⌜ (r ≡ at + length (restText (now (rest .entry)))) × (now (out .exit) ≡ sets (now (out .entry)) at (restText (now (rest .entry)))) ⌝ }
+    requires { ⌜ at + spacedRoom + 2 * length (now rest) + 1 ≤ length (now out) ⌝ }
+    ensures { λ r. ⌜ Writes (now (out .entry)) (now (out .exit)) at (restText (now (rest .entry))) r ⌝ }
 {
     if rest.len() == 0 {
         return at;

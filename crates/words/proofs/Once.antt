@@ -1,18 +1,18 @@
 -- Two results that satisfy a contract are equal: what each public entry gives is settled by its arguments.
-use Prim.Native.Nat.{ℕ, _+_, _≤_}
+use Prim.Native.Nat.{ℕ}
 use mathlib.Core.Path.{_≡_, sym, _∙_}
 use mathlib.Core.List.{List}
-use lib.ListN.{length}
-use lib.Seq.{sets}
-use Rattle.words.specs.Words.{placeOf, wordAt}
+use Rattle.records.specs.declared.Record.{Record}
+use Rattle.words.specs.Values.{valuesOf, recordFrom}
+use Rattle.words.specs.Words.{placeOf}
 
--- A text has one place.
+-- A text has one place among the words.
 pub place-once : (text : List ℕ) (a b : ℕ) → a ≡ placeOf text → b ≡ placeOf text → a ≡ b
 place-once text a b p q = p ∙ sym q
 
--- Of the same word, buffer and place there is one next place, and one buffer afterwards.
-pub word-once : (word at : ℕ) (out : List ℕ) (a b : ℕ) (v w : List ℕ)
-    → (a ≡ at + length (wordAt word)) × (v ≡ sets out at (wordAt word)) × (a ≤ at + 16)
-    → (b ≡ at + length (wordAt word)) × (w ≡ sets out at (wordAt word)) × (b ≤ at + 16)
-    → (a ≡ b) × (v ≡ w)
-word-once word at out a b v w p q = (p .0 ∙ sym (q .0), p .1 ∙ sym (q .1))
+-- A record has one list of fields, and the fields one record.
+pub values-once : (r : Record) (a b : List ℕ) → a ≡ valuesOf r → b ≡ valuesOf r → a ≡ b
+values-once r a b p q = p ∙ sym q
+
+pub record-once : (values : List ℕ) (a b : Record) → a ≡ recordFrom values → b ≡ recordFrom values → a ≡ b
+record-once values a b p q = p ∙ sym q

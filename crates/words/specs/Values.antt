@@ -6,6 +6,10 @@ use lib.Dec.{eqb}
 use lib.ListN.{getD}
 use Rattle.records.specs.declared.Record.{Record}
 
+-- so many fields there are
+abbrev pub fieldCount : ℕ
+fieldCount = 15
+
 -- the two sets are fields 4 and 5
 abbrev pub isSet : ℕ → Bool
 isSet f = eqb f 4 || eqb f 5

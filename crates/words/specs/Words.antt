@@ -54,6 +54,25 @@ words =
     ∷ (114 ∷ 97 ∷ 119 ∷ 32 ∷ 32 ∷ 32 ∷ 32 ∷ 32 ∷ 32 ∷ 32 ∷ 32 ∷ 32 ∷ 32 ∷ 32 ∷ 32 ∷ 32 ∷ [])
     ∷ []
 
+-- word 0 names a kind by its number, and word k is kind k's up to this one
+abbrev pub lastKind : ℕ
+lastKind = 17
+
+-- the words after those are of fields up to this one: word 17 + f is field f's, and the last three are other names of the fields 8 and 13
+abbrev pub lastField : ℕ
+lastField = 34
+
+-- the New ID that is absent, and bytes by themselves: the last word
+abbrev pub absentWord : ℕ
+absentWord = 35
+
+abbrev pub rawWord : ℕ
+rawWord = 36
+
+-- any word has room in so many bytes
+abbrev pub wordRoom : ℕ
+wordRoom = 16
+
 -- the first place where a text stands
 unfoldable pub placeIn : List (List ℕ) → List ℕ → ℕ
 placeIn [] text = 0

@@ -5,11 +5,22 @@ ghost use mathlib.Core.Path.{_≡_};
 ghost use Prim.Native.Nat.{_+_, _≤_};
 ghost use mathlib.Core.Bool.{cond};
 ghost use lib.ListN.{length};
-ghost use lib.Seq.{sets};
-ghost use Rattle.words.specs.Words.{isSame, placeOf, trimmed, wordAt};
+ghost use Rattle.buffers.specs.Buffers.{Writes};
+ghost use Rattle.words.specs.Words.{isSame, rawWord, wordRoom, placeOf, trimmed, wordAt};
 
-// Every word, with spaces after it. Word k is kind k's for k from 1 to 17, and word 17 + f is field f's; then come other names
-// of the fields 8 and 13, the New ID that is absent, and bytes by themselves.
+// The last word of a kind: word k is kind k's from 1 on.
+pub const LAST_KIND: usize = 17;
+
+// The last word of a field: word 17 + f is field f's, and then come other names of the fields 8 and 13.
+pub const LAST_FIELD: usize = 34;
+
+// The word for the New ID that is absent.
+pub const ABSENT: usize = 35;
+
+// The word for bytes by themselves, which is the last.
+pub const RAW: usize = 36;
+
+// Every word, with spaces after it.
 const WORDS: [[u8; 16]; 37] = [
     *b"kind            ",
     *b"request         ",
@@ -83,16 +94,16 @@ pub fn place_of(text: [u8; 16]) -> usize
 
 // Writes a word from a place on, and answers the next place.
 pub fn write_word(word: usize, out: &mut [u8], at: usize) -> usize
-    requires { ⌜ (word ≤ 36) × (at + 16 ≤ length (now out)) ⌝ }
-    ensures { λ r. ⌜ (r ≡ at + length (wordAt word)) × (now (out .exit) ≡ sets (now (out .entry)) at (wordAt word)) × (r ≤ at + 16) ⌝ }
+    requires { ⌜ (word ≤ rawWord) × (at + wordRoom ≤ length (now out)) ⌝ }
+    ensures { λ r. ⌜ Writes (now (out .entry)) (now (out .exit)) at (wordAt word) r × (r ≤ at + wordRoom) ⌝ }
 {
     write_trimmed(WORDS[word], out, at)
 }
 
 // Writes a text without the spaces after it.
 fn write_trimmed(text: [u8; 16], out: &mut [u8], at: usize) -> usize
-    requires { ⌜ at + 16 ≤ length (now out) ⌝ }
-    ensures { λ r. ⌜ (r ≡ at + length (trimmed text)) × (now (out .exit) ≡ sets (now (out .entry)) at (trimmed text)) × (r ≤ at + 16) ⌝ }
+    requires { ⌜ at + wordRoom ≤ length (now out) ⌝ }
+    ensures { λ r. ⌜ Writes (now (out .entry)) (now (out .exit)) at (trimmed text) r × (r ≤ at + wordRoom) ⌝ }
 {
     let mut i: usize = 0;
     while i < 16 && text[i] != 32 {

@@ -6,7 +6,7 @@ use native.Mathlib.Numerals.{add-one}
 use native.Mathlib.Omega.{arith}
 use lib.ListN.{length, getD, set, take, drop, length-take, length-drop, length-set, drop-of-length-le}
 use lib.Seq.{sets, getD-take, getD-drop, drop-drop, drop-cons, drop-set-lt}
-use Rattle.buffers.specs.Blocks.{leftIn}
+use Rattle.buffers.specs.Buffers.{leftIn}
 use Rattle.buffers.proofs.carry.Statement.{statement}
 use Rattle.buffers.proofs.carry.Tie as tie
 
@@ -54,7 +54,7 @@ returns : tie.Need-returns Inv-loop μ-loop
 returns c =
     let start = c .before .before .before .args in
     let nothing = none (start .taken) (start .held) _ (start .block .now) (c .before .least .ensures) (c .if1 .taken) in
-    (sym (ap length nothing), sym (ap (sets (start .block .now) 0) nothing))
+    record { next = omega (arith, ap length nothing); bytes = sym (ap (sets (start .block .now) 0) nothing) }
 
 sub-left : tie.Need-sub-left Inv-loop μ-loop
 sub-left c = omega arith
@@ -94,7 +94,7 @@ returns-2 c =
     let long = left-length (start .taken) (start .held) _ (start .block .now) (c .before .before .before .least .ensures) in
     let now = c .before .loop in
     let all : drop (now .i) left ≡ [] = drop-of-length-le left {i = now .i} (omega arith) in
-    (sym long, rw all at (now .inv .3))
+    record { next = omega (arith, long); bytes = rw all at (now .inv .3) }
 
 pub carry-spec : {M : Type 1} → statement M
 carry-spec =

@@ -5,13 +5,14 @@ use native.Mathlib.Omega.{arith}
 use borrow.Author.Tests.{ltb-true}
 use Rattle.laws.proofs.Tests.{both-true}
 use Rattle.composing.specs.declared.Draft.{Draft}
+use Rattle.composing.specs.Composed.{longestEvent}
 use lib.Dec.{ltb}
 use lib.ListN.{length}
 use Rattle.compose.proofs.main.Statement.{statement}
 use Rattle.compose.proofs.main.Tie as tie
 
 abbrev Inv-loop : tie.InvT-loop
-Inv-loop input₀ output₀ s₀ turns₀ input output s turns = (length input ≡ 65536) × (length output ≡ 8224) × (s .draft .ended ≡ false)
+Inv-loop input₀ output₀ s₀ turns₀ input output s turns = (length input ≡ 65536) × (length output ≡ longestEvent) × (s .draft .ended ≡ false)
 
 abbrev μ-loop : tie.MeasureT-loop
 μ-loop input₀ output₀ s₀ turns₀ input output s turns = turns

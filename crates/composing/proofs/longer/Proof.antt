@@ -1,4 +1,4 @@
--- The size stops at 17.
+-- The size stops one beyond the longest word's.
 use borrow.Author.Tests.{le-leb, lt-leb}
 use borrow.Author.Needs.{needs}
 use Rattle.composing.proofs.longer.Statement.{statement}

@@ -1,7 +1,6 @@
 -- Eight numbers with a space after each, and the last with a line feed.
 use native.Mathlib.Omega.{arith}
 use Rattle.lines.specs.Lines.{firstEight}
-use Rattle.buffers.specs.Digits.{cell, spaced}
 use Rattle.buffers.proofs.Lengths.{spaced-most}
 use Rattle.buffers.proofs.Writing.{joined}
 use borrow.Author.Needs.{needs}
@@ -46,14 +45,7 @@ same-length c = search needs
 
 returns : tie.Need-returns
 returns c =
-    let start = c .before .before .before .before .before .before .before .before .before .before .before .before .before .before .before .before .before .before .before .before in
-    let written = c .before .before .before .before .before .before .before .cells in
-    let o = start .args .o in
-    joined (start .args .out .now) _ _ (start .args .at) _ _ (spaced (firstEight (start .args .place) o)) (cell (o .ending) 10)
-    (written .ensures .0)
-    (written .ensures .1)
-    (c .before .before .cell .ensures .0)
-    (c .before .before .cell .ensures .1)
+    joined (c .before .before .before .before .before .before .before .cells .ensures) (c .before .before .cell .ensures)
 
 pub line-spec : {M : Type 1} → statement M
 line-spec =

@@ -5,11 +5,12 @@ use borrow.Author.Tests.{ltb-true}
 use Rattle.laws.proofs.Tests.{both-true}
 use lib.Dec.{ltb}
 use lib.ListN.{length}
+use Rattle.showing.specs.Room.{eventRoom}
 use Rattle.show.proofs.main.Statement.{statement}
 use Rattle.show.proofs.main.Tie as tie
 
 abbrev Inv-loop : tie.InvT-loop
-Inv-loop input₀ output₀ s₀ turns₀ input output s turns = (length input ≡ 65536) × (length output ≡ 4959)
+Inv-loop input₀ output₀ s₀ turns₀ input output s turns = (length input ≡ 65536) × (length output ≡ eventRoom)
 
 abbrev μ-loop : tie.MeasureT-loop
 μ-loop input₀ output₀ s₀ turns₀ input output s turns = turns

@@ -1,5 +1,5 @@
 -- What stands before a record, and the record after it.
-use Rattle.showing.proofs.Writing.{event-written}
+use Rattle.buffers.proofs.Writing.{joined}
 use borrow.Author.Needs.{needs}
 use Rattle.showing.proofs.write_event.Statement.{statement}
 use Rattle.showing.proofs.write_event.Tie as tie
@@ -15,10 +15,8 @@ same-length c = search needs
 
 returns : tie.Need-returns
 returns c =
-    let start = c .before .before .before .before .before .before .before .before .before .before .args in
-    let first = c .before .before .before .before .before .before .write-gap .ensures in
-    let then = c .before .before .write-record .ensures in
-    event-written (start .s) (start .r) (start .bytes .now) (start .out .now) _ _ _ _ (c .before .before .before .before .before .before .before .before .before .before .pre .1) (first .0) (first .1) (then .0) (then .1)
+    let told = c .before .before .before .before .before .before .before .before .before .before .pre .1 in
+    joined (rw told at (c .before .before .before .before .before .before .write-gap .ensures .0)) (c .before .before .write-record .ensures .0)
 
 pub write-event-spec : {M : Type 1} → statement M
 write-event-spec =

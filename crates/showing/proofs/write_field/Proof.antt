@@ -1,4 +1,5 @@
 -- Nothing for zero; else the word, and the value after it.
+use native.Mathlib.Omega.{arith}
 use Rattle.showing.proofs.Writing.{field-none, field-some}
 use borrow.Author.Needs.{needs}
 use Rattle.showing.proofs.write_field.Statement.{statement}
@@ -7,7 +8,7 @@ use Rattle.showing.proofs.write_field.Tie as tie
 returns : tie.Need-returns
 returns c =
     let start = c .before .before .args in
-    field-none (start .kind) (start .field) (start .value) (start .at) (start .out .now) (c .if1 .taken)
+    (field-none (start .kind) (start .field) (start .value) (start .at) (start .out .now) (c .if1 .taken), omega arith)
 
 field-word-requires : tie.Need-field-word-requires
 field-word-requires c κs = search needs
@@ -24,7 +25,11 @@ same-length c = search needs
 returns-2 : tie.Need-returns-2
 returns-2 c =
     let start = c .before .before .before .before .before .before .before .before .before .before .before .args in
-    field-some (start .kind) (start .field) (start .value) (start .at) (start .out .now) _ _ _ _ _ (c .before .before .before .before .before .before .before .before .before .if1 .left) (c .before .before .before .before .before .before .before .before .field-word .ensures .0) (c .before .before .before .before .before .before .write-spaced .ensures .0) (c .before .before .before .before .before .before .write-spaced .ensures .1) (c .before .before .before .before .before .before .write-spaced .ensures .2) (c .before .before .write-value .ensures .0) (c .before .before .write-value .ensures .1) (c .before .before .write-value .ensures .2)
+    let word = c .before .before .before .before .before .before .write-spaced .ensures in
+    let value = c .before .before .write-value .ensures in (
+      field-some (start .kind) (start .field) (start .value) (start .at) (start .out .now) _ _ _ _ _ (c .before .before .before .before .before .before .before .before .before .if1 .left) (c .before .before .before .before .before .before .before .before .field-word .ensures .0) (word .0) (value .0),
+      omega (arith, word .1, value .1),
+    )
 
 pub write-field-spec : {M : Type 1} → statement M
 write-field-spec =

@@ -4,20 +4,21 @@ use mathlib.Core.Path.{_≡_, refl, _∙_}
 use native.Mathlib.Omega.{arith}
 use borrow.Author.Needs.{needs}
 use lib.ListN.{length, drop}
-use lib.Seq.{sets}
+use Rattle.buffers.proofs.Writing.{stored, Completes, onward, completed}
+use Rattle.showing.specs.Room.{fieldRoom}
 use Rattle.showing.specs.Shown.{fieldsText}
-use Rattle.showing.proofs.Writing.{fields-onward, fields-done}
+use Rattle.showing.proofs.Writing.{fields-next, fields-done}
 use Rattle.showing.proofs.write_fields.Statement.{statement}
 use Rattle.showing.proofs.write_fields.Tie as tie
 
 abbrev Inv-loop : tie.InvT-loop
-Inv-loop kind out₀ at values place₀ f₀ out place f = (1 ≤ f) × (f ≤ 15) × (length out ≡ length out₀) × (place ≤ at + 353 * (f - 1)) × (place + length (fieldsText kind f (drop f values)) ≡ at + length (fieldsText kind 1 (drop 1 values))) × (sets out place (fieldsText kind f (drop f values)) ≡ sets out₀ at (fieldsText kind 1 (drop 1 values)))
+Inv-loop kind out₀ at values place₀ f₀ out place f = (1 ≤ f) × (f ≤ 15) × (length out ≡ length out₀) × (place ≤ at + fieldRoom * (f - 1)) × Completes out₀ out at (fieldsText kind 1 (drop 1 values)) place (fieldsText kind f (drop f values))
 
 abbrev μ-loop : tie.MeasureT-loop
 μ-loop kind out₀ at values place₀ f₀ out place f = 15 - f
 
 loop-holds : tie.Need-loop-holds Inv-loop μ-loop
-loop-holds c = (omega arith, omega arith, refl, omega arith, refl, refl)
+loop-holds c = (omega arith, omega arith, refl, omega arith, stored _ _ _)
 
 mul-write-field : tie.Need-mul-write-field Inv-loop μ-loop
 mul-write-field c = omega (arith, c .loop-test .taken)
@@ -42,8 +43,8 @@ loop-again c =
     let now = c .before .before .before .before .before .loop in
     let written = c .before .before .write-field in
     let long : length (start .args .t1) ≡ 15 = search needs in
-    let on = fields-onward (start .args .kind) (now .f) (start .args .t1) (now .out) _ (now .place) _ (omega (arith, c .before .before .before .before .loop-test .taken)) (written .ensures .0) (written .ensures .1) in
-    (omega arith, omega (arith, c .before .before .before .before .loop-test .taken), written .kept .1 .1 .1 .0 ∙ now .inv .2, omega (arith, written .ensures .2, now .inv .0, now .inv .3), on .0 ∙ now .inv .4, on .1 ∙ now .inv .5)
+    let next = fields-next (start .args .kind) (now .f) (start .args .t1) (omega (arith, c .before .before .before .before .loop-test .taken)) in
+    (omega arith, omega (arith, c .before .before .before .before .loop-test .taken), written .kept .1 .1 .1 .0 ∙ now .inv .2, omega (arith, written .ensures .1, now .inv .0, now .inv .3), onward _ (rw next at (now .inv .4)) (written .ensures .0))
 
 same-length : tie.Need-same-length Inv-loop μ-loop
 same-length c = c .before .loop .inv .2
@@ -54,7 +55,7 @@ returns c =
     let now = c .before .loop in
     let long : length (start .args .t1) ≡ 15 = search needs in
     let none = fields-done (start .args .kind) (now .f) (start .args .t1) (omega (arith, c .loop-test .left)) in
-    (omega (arith, rw none at (now .inv .4)), rw none at (now .inv .5), omega (arith, now .inv .1, now .inv .3))
+    (completed (rw none at (now .inv .4)), omega (arith, now .inv .1, now .inv .3))
 
 pub write-fields-spec : {M : Type 1} → statement M
 write-fields-spec =

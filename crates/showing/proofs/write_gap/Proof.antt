@@ -1,6 +1,8 @@
 -- A space, a line feed or nothing.
-use mathlib.Core.Path.{refl, sym, _∙_}
+use mathlib.Core.Path.{sym, _∙_}
+use mathlib.Core.List.{[], _∷_}
 use native.Mathlib.Omega.{arith}
+use Rattle.buffers.proofs.Writing.{stored, nothing}
 use borrow.Author.Needs.{needs}
 use Rattle.showing.proofs.write_gap.Statement.{statement}
 use Rattle.showing.proofs.write_gap.Tie as tie
@@ -18,7 +20,7 @@ same-length : tie.Need-same-length
 same-length c = search needs
 
 returns : tie.Need-returns
-returns c = rw (sym (c .before .joins .ensures) ∙ c .if1 .taken) (refl, refl, omega arith)
+returns c = rw (sym (c .before .joins .ensures) ∙ c .if1 .taken) (stored _ _ (32 ∷ []), omega arith)
 
 slice-write-out-2 : tie.Need-slice-write-out-2
 slice-write-out-2 c = search needs
@@ -30,10 +32,10 @@ same-length-2 : tie.Need-same-length-2
 same-length-2 c = search needs
 
 returns-2 : tie.Need-returns-2
-returns-2 c = rw (sym (c .before .before .joins .ensures) ∙ c .before .if1 .left, c .if2 .taken) (refl, refl, omega arith)
+returns-2 c = rw (sym (c .before .before .joins .ensures) ∙ c .before .if1 .left, c .if2 .taken) (stored _ _ (10 ∷ []), omega arith)
 
 returns-3 : tie.Need-returns-3
-returns-3 c = rw (sym (c .before .before .joins .ensures) ∙ c .before .if1 .left, c .if2 .left) (omega arith, refl, omega arith)
+returns-3 c = rw (sym (c .before .before .joins .ensures) ∙ c .before .if1 .left, c .if2 .left) (nothing _ _, omega arith)
 
 pub write-gap-spec : {M : Type 1} → statement M
 write-gap-spec =

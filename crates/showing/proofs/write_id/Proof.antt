@@ -1,6 +1,7 @@
 -- A member's number, or nothing.
-use mathlib.Core.Path.{refl, sym, _∙_}
+use mathlib.Core.Path.{sym, _∙_}
 use native.Mathlib.Omega.{arith}
+use Rattle.buffers.proofs.Writing.{nothing}
 use borrow.Author.Needs.{needs}
 use Rattle.showing.proofs.write_id.Statement.{statement}
 use Rattle.showing.proofs.write_id.Tie as tie
@@ -18,7 +19,7 @@ returns : tie.Need-returns
 returns c = rw (sym (c .before .before .before .before .before .member .ensures) ∙ c .before .before .before .before .if1 .taken) (c .before .before .write-number .ensures)
 
 returns-2 : tie.Need-returns-2
-returns-2 c = rw (sym (c .before .member .ensures) ∙ c .if1 .left) (omega arith, refl, omega arith)
+returns-2 c = rw (sym (c .before .member .ensures) ∙ c .if1 .left) (nothing _ _, omega arith)
 
 pub write-id-spec : {M : Type 1} → statement M
 write-id-spec =

@@ -3,20 +3,21 @@ use Prim.Native.Nat.{_+_, _*_, _-_, _≤_}
 use mathlib.Core.Path.{_≡_, refl, _∙_}
 use native.Mathlib.Omega.{arith}
 use lib.ListN.{length}
-use lib.Seq.{sets}
+use Rattle.buffers.specs.Digits.{cellRoom}
+use Rattle.buffers.proofs.Writing.{stored, Completes, onward, completed}
 use Rattle.showing.specs.Shown.{idsText}
-use Rattle.showing.proofs.Writing.{ids-onward, ids-done}
+use Rattle.showing.proofs.Writing.{ids-next, ids-done}
 use Rattle.showing.proofs.write_ids.Statement.{statement}
 use Rattle.showing.proofs.write_ids.Tie as tie
 
 abbrev Inv-loop : tie.InvT-loop
-Inv-loop set out₀ at place₀ id₀ out place id = (id ≤ 16) × (length out ≡ length out₀) × (place ≤ at + 21 * id) × (place + length (idsText set id (16 - id)) ≡ at + length (idsText set 0 16)) × (sets out place (idsText set id (16 - id)) ≡ sets out₀ at (idsText set 0 16))
+Inv-loop set out₀ at place₀ id₀ out place id = (id ≤ 16) × (length out ≡ length out₀) × (place ≤ at + cellRoom * id) × Completes out₀ out at (idsText set 0 16) place (idsText set id (16 - id))
 
 abbrev μ-loop : tie.MeasureT-loop
 μ-loop set out₀ at place₀ id₀ out place id = 16 - id
 
 loop-holds : tie.Need-loop-holds Inv-loop μ-loop
-loop-holds c = (omega arith, refl, omega arith, refl, refl)
+loop-holds c = (omega arith, refl, omega arith, stored _ _ _)
 
 write-id-requires : tie.Need-write-id-requires Inv-loop μ-loop
 write-id-requires c κs =
@@ -33,8 +34,8 @@ loop-again : tie.Need-loop-again Inv-loop μ-loop
 loop-again c =
     let now = c .before .before .before .before .before .loop in
     let written = c .before .before .write-id in
-    let on = ids-onward (c .before .before .before .before .before .before .before .args .set) (now .id) (now .out) _ (now .place) _ (c .before .before .before .before .loop-test .taken) (written .ensures .0) (written .ensures .1) in
-    (omega (arith, c .before .before .before .before .loop-test .taken), written .kept .1 .1 .0 ∙ now .inv .1, omega (arith, written .ensures .2, now .inv .2), on .0 ∙ now .inv .3, on .1 ∙ now .inv .4)
+    let next = ids-next (c .before .before .before .before .before .before .before .args .set) (now .id) (c .before .before .before .before .loop-test .taken) in
+    (omega (arith, c .before .before .before .before .loop-test .taken), written .kept .1 .1 .0 ∙ now .inv .1, omega (arith, written .ensures .1, now .inv .2), onward _ (rw next at (now .inv .3)) (written .ensures .0))
 
 same-length : tie.Need-same-length Inv-loop μ-loop
 same-length c = c .before .loop .inv .1
@@ -43,7 +44,7 @@ returns : tie.Need-returns Inv-loop μ-loop
 returns c =
     let now = c .before .loop in
     let none = ids-done (c .before .before .before .args .set) (now .id) (c .loop-test .left) in
-    (omega (arith, rw none at (now .inv .3)), rw none at (now .inv .4), omega (arith, now .inv .0, now .inv .2))
+    (completed (rw none at (now .inv .3)), omega (arith, now .inv .0, now .inv .2))
 
 pub write-ids-spec : {M : Type 1} → statement M
 write-ids-spec =

@@ -1,9 +1,10 @@
 -- A space, and the digits after it.
 use mathlib.Core.Path.{_∙_}
+use mathlib.Core.List.{[], _∷_}
 use native.Mathlib.Omega.{arith}
 use lib.ListN.{length-set}
-use Rattle.showing.proofs.Writing.{numbered}
-use Rattle.buffers.proofs.Lengths.{size-most}
+use Rattle.buffers.proofs.Lengths.{size-most, spelled}
+use Rattle.buffers.proofs.Writing.{stored, joined}
 use borrow.Author.Needs.{needs}
 use Rattle.showing.proofs.write_number.Statement.{statement}
 use Rattle.showing.proofs.write_number.Tie as tie
@@ -29,7 +30,8 @@ same-length c = c .before .before .spell .kept .1 .1 .0 ∙ length-set (c .befor
 returns : tie.Need-returns
 returns c =
     let start = c .before .before .before .before .before .before .args in
-    numbered (start .out .now) _ (start .at) (start .n) _ (c .before .before .before .before .size .ensures) (c .before .before .spell .ensures)
+    let size = c .before .before .before .before .size .ensures in
+    (joined (stored (start .out .now) (start .at) (32 ∷ [])) (spelled _ (start .n) _ size (c .before .before .spell .ensures)), omega (arith, size, size-most 19 (start .n)))
 
 pub write-number-spec : {M : Type 1} → statement M
 write-number-spec =

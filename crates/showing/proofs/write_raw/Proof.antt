@@ -17,7 +17,7 @@ add-from : tie.Need-add-from
 add-from c = search needs
 
 write-bytes-requires : tie.Need-write-bytes-requires
-write-bytes-requires c κs = simp length-set (omega (arith, c .before .before .before .write-word .ensures .2, c .before .before .before .write-word .kept .1 .0, c .before .before .before .before .before .before .before .pre))
+write-bytes-requires c κs = simp length-set (omega (arith, c .before .before .before .write-word .ensures .1, c .before .before .before .write-word .kept .1 .0, c .before .before .before .before .before .before .before .pre))
 
 mul-result : tie.Need-mul-result
 mul-result c = search needs
@@ -32,7 +32,7 @@ returns : tie.Need-returns
 returns c =
     let start = c .before .before .before .before .before .before .before .before .before .before .args in
     let word = c .before .before .before .before .before .before .write-word .ensures in
-    raw-written (start .out .now) _ _ (start .at) _ (start .bytes .now) (word .0) (word .1) (word .2) (c .before .before .write-bytes .ensures)
+    (raw-written (start .bytes .now) (word .0) (c .before .before .write-bytes .ensures), omega (arith, word .1))
 
 pub write-raw-spec : {M : Type 1} → statement M
 write-raw-spec =

@@ -20,8 +20,8 @@ returns : tie.Need-returns
 returns c =
     let start = c .before .before .before .before .before .before .before .before .args in
     let words = c .before .before .write-words .ensures in
-    let text = by-words (start .r) (start .bytes .now) (start .out .now) _ (start .at) _ (c .before .before .before .before .before .before .before .before .pre .1) (sym (c .before .before .before .before .before .has-word .ensures) ∙ c .before .before .before .before .if1 .taken) (words .0) (words .1) in
-    (text .0, text .1, words .2)
+    let text = by-words (start .bytes .now) (c .before .before .before .before .before .before .before .before .pre .1) (sym (c .before .before .before .before .before .has-word .ensures) ∙ c .before .before .before .before .if1 .taken) (words .0) in
+    (text, words .1)
 
 write-raw-requires : tie.Need-write-raw-requires
 write-raw-requires c κs = search needs
@@ -33,8 +33,8 @@ returns-2 : tie.Need-returns-2
 returns-2 c =
     let start = c .before .before .before .before .before .before .before .before .args in
     let raw = c .before .before .write-raw .ensures in
-    let text = by-digits (start .r) (start .bytes .now) (start .out .now) _ (start .at) _ (c .before .before .before .before .before .before .before .before .pre .1) (sym (c .before .before .before .before .before .has-word .ensures) ∙ c .before .before .before .before .if1 .left) (raw .0) (raw .1) in
-    (text .0, text .1, omega (arith, raw .2, c .before .before .before .before .before .before .before .before .pre .0))
+    let text = by-digits (start .bytes .now) (c .before .before .before .before .before .before .before .before .pre .1) (sym (c .before .before .before .before .before .has-word .ensures) ∙ c .before .before .before .before .if1 .left) (raw .0) in
+    (text, omega (arith, raw .1, c .before .before .before .before .before .before .before .before .pre .0))
 
 pub write-record-spec : {M : Type 1} → statement M
 write-record-spec =

@@ -1,9 +1,9 @@
 -- A space, and the word after it.
 use mathlib.Core.Path.{_∙_}
+use mathlib.Core.List.{[], _∷_}
 use native.Mathlib.Omega.{arith}
 use lib.ListN.{length-set}
-use Rattle.showing.proofs.Writing.{after-space}
-use Rattle.words.specs.Words.{wordAt}
+use Rattle.buffers.proofs.Writing.{stored, joined}
 use borrow.Author.Needs.{needs}
 use Rattle.showing.proofs.write_spaced.Statement.{statement}
 use Rattle.showing.proofs.write_spaced.Tie as tie
@@ -23,7 +23,8 @@ same-length c = c .before .before .write-word .kept .1 .0 ∙ length-set (c .bef
 returns : tie.Need-returns
 returns c =
     let start = c .before .before .before .before .before .args in
-    after-space (start .out .now) _ (start .at) _ (wordAt (start .word)) (c .before .before .write-word .ensures .0) (c .before .before .write-word .ensures .1) (c .before .before .write-word .ensures .2)
+    let word = c .before .before .write-word .ensures in
+    (joined (stored (start .out .now) (start .at) (32 ∷ [])) (word .0), omega (arith, word .1))
 
 pub write-spaced-spec : {M : Type 1} → statement M
 write-spaced-spec =

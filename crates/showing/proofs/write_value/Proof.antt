@@ -27,7 +27,7 @@ same-length-2 : tie.Need-same-length-2
 same-length-2 c = search needs
 
 returns-2 : tie.Need-returns-2
-returns-2 c = rw (sym (c .before .before .before .before .before .is-set .ensures) ∙ c .before .before .before .before .if1 .left) (c .before .before .write-number .ensures .0, c .before .before .write-number .ensures .1, omega (arith, c .before .before .write-number .ensures .2))
+returns-2 c = rw (sym (c .before .before .before .before .before .is-set .ensures) ∙ c .before .before .before .before .if1 .left) (c .before .before .write-number .ensures .0, omega (arith, c .before .before .write-number .ensures .1))
 
 pub write-value-spec : {M : Type 1} → statement M
 write-value-spec =

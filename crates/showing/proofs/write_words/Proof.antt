@@ -1,10 +1,6 @@
 -- The word of its kind, and its fields after it.
 use native.Mathlib.Omega.{arith}
 use Rattle.buffers.proofs.Writing.{joined}
-use lib.ListN.{drop}
-use Rattle.words.specs.Words.{wordAt}
-use Rattle.words.specs.Values.{valuesOf}
-use Rattle.showing.specs.Shown.{fieldsText}
 use borrow.Author.Needs.{needs}
 use Rattle.showing.proofs.write_words.Statement.{statement}
 use Rattle.showing.proofs.write_words.Tie as tie
@@ -26,13 +22,10 @@ same-length c = search needs
 
 returns : tie.Need-returns
 returns c =
-    let start = c .before .before .before .before .before .before .before .before .before .before .before .args in
-    let kind = start .r .kind in
     let first = c .before .before .before .before .before .before .write-word .ensures in
     let then = c .before .before .write-fields .ensures in
     let same = c .before .before .before .before .before .before .before .before .before .values-of .ensures in
-    let both = joined (start .out .now) _ _ (start .at) _ _ (wordAt kind) (fieldsText kind 1 (drop 1 (valuesOf (start .r)))) (first .0) (first .1) (rw same at (then .0)) (rw same at (then .1)) in
-    (both .0, both .1, omega (arith, first .2, then .2))
+    (joined (first .0) (rw same at (then .0)), omega (arith, first .1, then .1))
 
 pub write-words-spec : {M : Type 1} → statement M
 write-words-spec =

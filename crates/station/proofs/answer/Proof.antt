@@ -1,6 +1,7 @@
 -- The answer stays within the buffers, and what is carried is no more than was held.
 use Prim.Native.Nat.{_≤_}
 use mathlib.Core.Path.{sym}
+use native.Mathlib.Omega.{arith}
 use lib.ListN.{length, take}
 use lib.Seq.{length-take-le}
 use Rattle.buffers.proofs.Left.{left-within}
@@ -58,7 +59,7 @@ returns c =
     let start = start answered .args in
     record {
       reached = answered .answer .ensures .2;
-      held = rw (c .before .before .before .carry .ensures .0) (left-within (answered .answer .result .taken) (start .s .held) (start .input .now));
+      held = omega (arith, c .before .before .before .carry .ensures .next, left-within (answered .answer .result .taken) (start .s .held) (start .input .now));
     }
 
 pub answer-spec : {M : Type 1} → statement M

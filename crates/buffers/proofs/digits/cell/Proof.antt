@@ -1,11 +1,9 @@
 -- The digits are stored, and the byte after them.
-use Prim.Native.Nat.{_+_, _≤_}
-use mathlib.Core.Path.{refl}
+use Prim.Native.Nat.{_≤_}
 use mathlib.Core.List.{[], _∷_}
 use native.Mathlib.Omega.{arith}
-use Rattle.buffers.specs.Digits.{size as sizeOf, digits}
-use Rattle.buffers.proofs.Lengths.{size-most, length-digits}
-use Rattle.buffers.proofs.Writing.{joined}
+use Rattle.buffers.proofs.Lengths.{size-most, spelled}
+use Rattle.buffers.proofs.Writing.{stored, joined}
 use borrow.Author.Needs.{needs}
 use Rattle.buffers.proofs.digits.cell.Statement.{statement}
 use Rattle.buffers.proofs.digits.cell.Tie as tie
@@ -36,8 +34,7 @@ returns : tie.Need-returns
 returns c =
     let start = c .before .before .before .before .before .before .args in
     let size = c .before .before .before .before .size in
-    joined (start .out .now) _ _ (start .at) (start .at + size .result) _ (digits (sizeOf (start .n)) (start .n)) (start .after ∷ [])
-    (rw (size .ensures, length-digits (sizeOf (start .n)) (start .n))) (rw (size .ensures) at (c .before .before .spell .ensures)) refl refl
+    joined (spelled (start .at) (start .n) _ (size .ensures) (c .before .before .spell .ensures)) (stored _ _ (start .after ∷ []))
 
 pub cell-spec : {M : Type 1} → statement M
 cell-spec =

@@ -5,27 +5,26 @@ use mathlib.Core.List.{List, [], _++_}
 use native.Mathlib.Numerals.{add-one}
 use native.Mathlib.Omega.{arith}
 use lib.ListN.{length, getD, drop, drop-of-length-le}
-use lib.Seq.{sets, drop-cons}
-use Rattle.buffers.specs.Digits.{cell, spaced}
+use lib.Seq.{drop-cons}
+use Rattle.buffers.specs.Digits.{cellRoom, cell, spaced}
 use Rattle.buffers.proofs.Lengths.{cell-most}
-use Rattle.buffers.proofs.Writing.{joined}
+use Rattle.buffers.proofs.Writing.{stored, Completes, onward, completed}
 use Rattle.buffers.proofs.digits.cells.Statement.{statement}
 use Rattle.buffers.proofs.digits.cells.Tie as tie
 
--- so far: each number took at most 21 bytes
+-- so far: each number took at most its room
 abbrev Inv-loop : tie.InvT-loop
 Inv-loop out₀ at numbers place₀ i₀ out place i =
     (i ≤ 8)
     × (length out ≡ length out₀)
-    × (place ≤ at + 21 * i)
-    × (place + length (spaced (drop i numbers)) ≡ at + length (spaced numbers))
-    × (sets out place (spaced (drop i numbers)) ≡ sets out₀ at (spaced numbers))
+    × (place ≤ at + cellRoom * i)
+    × Completes out₀ out at (spaced numbers) place (spaced (drop i numbers))
 
 abbrev μ-loop : tie.MeasureT-loop
 μ-loop out₀ at numbers place₀ i₀ out place i = 8 - i
 
 loop-holds : tie.Need-loop-holds Inv-loop μ-loop
-loop-holds c = (omega arith, refl, omega arith, refl, refl)
+loop-holds c = (omega arith, refl, omega arith, stored _ _ _)
 
 mul-cell : tie.Need-mul-cell Inv-loop μ-loop
 mul-cell c = omega arith
@@ -42,29 +41,21 @@ add-i c = omega arith
 loop-less : tie.Need-loop-less Inv-loop μ-loop
 loop-less c = omega arith
 
--- the next number
+-- the next number, and those after it
 next : (numbers : List ℕ) (i : ℕ) → i < length numbers → spaced (drop i numbers) ≡ cell (getD numbers i 0) 32 ++ spaced (drop (i + 1) numbers)
 unfolding spaced
 next numbers i h = rw (drop-cons numbers i 0 h, add-one i)
-
--- is written where the last one ended
-onward : (numbers out left : List ℕ) (i at end : ℕ) → i < length numbers → end ≡ at + length (cell (getD numbers i 0) 32)
-    → left ≡ sets out at (cell (getD numbers i 0) 32)
-    → (end + length (spaced (drop (i + 1) numbers)) ≡ at + length (spaced (drop i numbers))) × (sets left end (spaced (drop (i + 1) numbers)) ≡ sets out at (spaced (drop i numbers)))
-onward numbers out left i at end h e f =
-    rw (next numbers i h) (joined out left _ at end _ (cell (getD numbers i 0) 32) (spaced (drop (i + 1) numbers)) e f refl refl)
 
 loop-again : tie.Need-loop-again Inv-loop μ-loop
 loop-again c =
     let start = c .before .before .before .before .before .before .before in
     let now = c .before .before .before .before .before .loop in
     let here : now .i < length (start .args .t1) = omega arith in
-    let on = onward (start .args .t1) (now .out) _ (now .i) (now .place) _ here (c .before .before .cell .ensures .0) (c .before .before .cell .ensures .1) in (
+    let owed = rw (next (start .args .t1) (now .i) here) at (now .inv .3) in (
       omega arith,
       c .before .before .cell .kept .1 .1 .0 ∙ now .inv .1,
       omega (arith, cell-most (getD (start .args .t1) (now .i) 0) 32),
-      on .0 ∙ now .inv .3,
-      on .1 ∙ now .inv .4,
+      onward _ owed (c .before .before .cell .ensures),
     )
 
 same-length : tie.Need-same-length Inv-loop μ-loop
@@ -80,7 +71,7 @@ returns c =
     let start = c .before .before .before in
     let now = c .before .loop in
     let none = done (start .args .t1) (now .i) (omega arith) in
-    (omega (arith, rw none at (now .inv .3)), rw none at (now .inv .4))
+    completed (rw none at (now .inv .3))
 
 pub cells-spec : {M : Type 1} → statement M
 cells-spec =

@@ -4,6 +4,7 @@ use mathlib.Core.Path.{_≡_, refl, sym, _∙_}
 use mathlib.Core.List.{[]}
 use native.Mathlib.Omega.{arith}
 use lib.ListN.{length}
+use Rattle.buffers.proofs.Writing.{nothing}
 use Rattle.lines.proofs.Turning.{Head, size-left, same-length as kept-length, returned, has-room, some, turned}
 use Rattle.lines.proofs.Run.answer.Statement.{statement}
 use Rattle.lines.proofs.Run.answer.Tie as tie
@@ -28,9 +29,8 @@ loop-holds c =
         reached = start .pre;
         within-block = omega arith;
         enough = omega arith;
-        size = refl;
         within-buffer = omega arith;
-        wrote = refl;
+        wrote = nothing _ 0;
         goes-on = refl;
       },
       refl,
@@ -104,8 +104,7 @@ loop-again c =
           (now .inv .1)
           (answer .ensures .0)
           (answer .ensures .2)
-          (line .ensures .0)
-          (line .ensures .1)
+          (line .ensures)
           (c .before .before .wrapping-add-u64 .ensures)
           (c .cut2 .ensures),
       answer .kept .1 .1 .0 ∙ now .inv .1,

@@ -8,6 +8,7 @@ use Rattle.laws.proofs.Tests.{both-true}
 use lib.Dec.{leb}
 use lib.ListN.{length}
 use lib.Seq.{length-take-le}
+use Rattle.showing.specs.Room.{eventRoom}
 use Rattle.showing.specs.Shown.{isShown}
 use Rattle.showing.proofs.Writing.{is-shown}
 use borrow.Author.Needs.{needs}
@@ -15,10 +16,10 @@ use Rattle.showing.proofs.Sheet.show.Statement.{statement}
 use Rattle.showing.proofs.Sheet.show.Tie as tie
 
 -- what the test tells
-room : (bytes out : List ℕ) → isShown (length out) bytes ≡ true → (32 ≤ length bytes) × (4959 ≤ length out)
+room : (bytes out : List ℕ) → isShown (length out) bytes ≡ true → (32 ≤ length bytes) × (eventRoom ≤ length out)
 room bytes out t =
-    let both = both-true (leb 32 (length bytes)) (leb 4959 (length out)) t in
-    (leb-true 32 (length bytes) (both .0), leb-true 4959 (length out) (both .1))
+    let both = both-true (leb 32 (length bytes)) (leb eventRoom (length out)) t in
+    (leb-true 32 (length bytes) (both .0), leb-true eventRoom (length out) (both .1))
 
 record-at-requires : tie.Need-record-at-requires
 record-at-requires c κs =
@@ -45,7 +46,7 @@ returns : tie.Need-returns
 returns c =
     let start = c .before .before .before .before .before .before .before .before .before .before .args in
     let event = c .before .before .before .write-event .ensures in
-    is-shown (start .self) _ (start .bytes .now) (start .out .now) _ _ _ (c .before .before .before .before .before .before .before .if1 .taken) (c .before .before .before .before .before .before .record-at .ensures) (event .0) (event .1) (c .owed-after .ensures)
+    is-shown (start .self) (start .bytes .now) (start .out .now) _ _ (c .before .before .before .before .before .before .before .if1 .taken) (c .before .before .before .before .before .before .record-at .ensures) event (c .owed-after .ensures)
 
 returns-2 : tie.Need-returns-2
 returns-2 c = rw (c .if1 .left) (refl, refl)
