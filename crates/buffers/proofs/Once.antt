@@ -1,5 +1,5 @@
 -- Two results that satisfy a contract are equal: what each public entry gives is settled by its arguments.
-use Prim.Native.Nat.{ℕ}
+use Prim.Native.Nat.{ℕ, min}
 use mathlib.Core.Path.{_≡_, sym, _∙_}
 use mathlib.Core.List.{List}
 use lib.Seq.{sets}
@@ -17,3 +17,7 @@ digits-once n a b p q = p ∙ sym q
 
 pub spell-once : (n k at : ℕ) (out v w : List ℕ) → v ≡ sets out at (digits k n) → w ≡ sets out at (digits k n) → v ≡ w
 spell-once n k at out v w p q = p ∙ sym q
+
+-- Two numbers have one least.
+pub least-once : (m n a b : ℕ) → a ≡ min m n → b ≡ min m n → a ≡ b
+least-once m n a b p q = p ∙ sym q

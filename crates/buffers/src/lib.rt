@@ -20,6 +20,7 @@ pub fn carry(block: &mut [u8], taken: usize, held: usize) -> usize
     left
 }
 
+// The lesser of two numbers.
 pub fn least(a: usize, b: usize) -> usize
     ensures { λ r. ⌜ r ≡ min a b ⌝ }
 {
