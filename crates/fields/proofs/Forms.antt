@@ -1,5 +1,5 @@
 -- What a well-formed event has.
-use Prim.Native.Nat.{ℕ, _≤_, _<_}
+use Prim.Native.Nat.{ℕ, _≤_}
 use mathlib.Core.Path.{_≡_}
 use mathlib.Core.Bool.{Bool, true, false, _&&_, _||_, not, false≢true}
 use borrow.Author.Tests.{leb-true, le-leb, eqb-true, not-true}

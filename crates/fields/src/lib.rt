@@ -1,7 +1,6 @@
 // What sort of event a kind is, which fields it uses, and in what range.
 use records::Record;
 ghost use mathlib.Core.Path.{_≡_};
-ghost use mathlib.Core.Bool.{cond};
 ghost use lib.ListN.{getD};
 ghost use Rattle.fields.specs.Fields.{rowOf, isFilled, inRange, idsInRange, valuesInRange, othersZero, formedBy, sortOfEvent};
 

@@ -34,6 +34,35 @@ blank =
       deadline = 0;
     }
 
+-- what a start makes, and what an admitted request makes
+abbrev pub preparing : ℕ → ℕ → ℕ → ℕ → Entry
+preparing neighbour id set deadline =
+    record {
+      state = 1;
+      neighbour = neighbour;
+      old = record { 0 = id };
+      new = record { 0 = 0 };
+      requested = set;
+      admitted = 0;
+      status = 0;
+      units = 0;
+      deadline = deadline;
+    }
+
+abbrev pub held : ℕ → ℕ → ℕ → ℕ → ℕ → ℕ → Entry
+held neighbour old id admitted units deadline =
+    record {
+      state = 3;
+      neighbour = neighbour;
+      old = record { 0 = old };
+      new = record { 0 = id };
+      requested = 0;
+      admitted = admitted;
+      status = 0;
+      units = units;
+      deadline = deadline;
+    }
+
 -- "Own IDs serve both roles": an outgoing record's own ID is its Old ID, an incoming one's its New ID
 abbrev pub ownIs : ℕ → Entry → Bool
 ownIs i r = isOutgoing r && eqb (r .old .0) i || isIncoming r && eqb (r .new .0) i

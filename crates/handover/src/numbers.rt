@@ -3,8 +3,7 @@ use crate::Entry;
 use records::NewId;
 use records::OldId;
 ghost use mathlib.Core.Path.{_≡_};
-ghost use Prim.Native.Nat.{_<_};
-ghost use Rattle.handover.specs.Numbers.{blank as blankOf, own as ownOf, ownIs, nextAfter};
+ghost use Rattle.handover.specs.Numbers.{blank as blankOf, preparing as preparingOf, held as heldOf, own as ownOf, ownIs};
 
 // A free place.
 pub fn blank() -> Entry
@@ -20,6 +19,47 @@ pub fn blank() -> Entry
         status: 0,
         units: 0,
         deadline: 0,
+    }
+}
+
+// What a start makes: a preparing record.
+pub fn preparing(neighbour: u8, id: OldId, set: u16, deadline: u64) -> Entry
+    ensures { λ r. ⌜ r ≡ preparingOf neighbour (id .0) set deadline ⌝ }
+{
+    Entry {
+        state: 1,
+        neighbour,
+        old: id,
+        new: NewId(0),
+        requested: set,
+        admitted: 0,
+        status: 0,
+        units: 0,
+        deadline,
+    }
+}
+
+// What an admitted request makes: a held record.
+pub fn held(
+    neighbour: u8,
+    old: OldId,
+    id: NewId,
+    admitted: u16,
+    units: u32,
+    deadline: u64,
+) -> Entry
+    ensures { λ r. ⌜ r ≡ heldOf neighbour (old .0) (id .0) admitted units deadline ⌝ }
+{
+    Entry {
+        state: 3,
+        neighbour,
+        old,
+        new: id,
+        requested: 0,
+        admitted,
+        status: 0,
+        units,
+        deadline,
     }
 }
 
@@ -42,12 +82,4 @@ pub fn own_is(id: u16, r: Entry) -> bool
         return false;
     }
     ((1 <= r.state) & (r.state <= 2) & (r.old.0 == id)) | ((3 <= r.state) & (r.new.0 == id))
-}
-
-// The number after an own ID.
-pub fn next_after(id: u16) -> u16
-    requires { ⌜ id < 4096 ⌝ }
-    ensures { λ r. ⌜ r ≡ nextAfter id ⌝ }
-{
-    if id == 4095 { 0 } else { id + 1 }
 }

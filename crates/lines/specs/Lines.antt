@@ -3,7 +3,7 @@ use Prim.Native.Nat.{ℕ, zero, suc, _+_, _*_, _-_, _%_, _^_}
 use mathlib.Core.Bool.{Bool, cond, _&&_, _||_}
 use mathlib.Core.List.{List, [], _∷_, _++_}
 use lib.Dec.{leb, ltb}
-use lib.ListN.{length, take, drop}
+use lib.ListN.{length, drop}
 use Rattle.buffers.specs.Digits.{cellRoom, cell, spaced}
 use Rattle.records.specs.Stream.{pieceOf, firstOf}
 use Rattle.records.specs.declared.stream.Piece.{Piece}

@@ -1,7 +1,7 @@
 -- Who meets the contract of a step is the step, so no impostor meets it.
 use Prim.Native.Nat.{ℕ, zero, suc}
 use mathlib.Core.Path.{_≡_, refl, sym, ap, subst, _∙_}
-use mathlib.Core.Bool.{Bool, true, _&&_, true≢false}
+use mathlib.Core.Bool.{Bool, true, _&&_}
 use mathlib.Core.List.{List, [], _∷_}
 use borrow.Author.Tests.{leb-true, eqb-false}
 use native.Mathlib.Omega.{arith}

@@ -5,7 +5,7 @@ use mathlib.Core.Bool.{true, false, not, true≢false}
 use mathlib.Core.List.{List}
 use borrow.Author.Tests.{eqb-true, eqb-false}
 use lib.Dec.{eqb}
-use lib.ListN.{getD, set}
+use lib.ListN.{getD}
 use lib.Seq.{getD-set-other}
 use Rattle.laws.proofs.Tests.{by-cases, both-true, refuted}
 use Rattle.records.specs.declared.Record.{Record}

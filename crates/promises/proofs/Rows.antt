@@ -1,33 +1,25 @@
--- Each kind's row of "Which state takes which event": from which state, to which state or ending, which message with which fields.
-use Prim.Native.Nat.{ℕ, suc, _+_, _<_}
-use mathlib.Core.Path.{_≡_, refl, sym, ap, _∙_}
-use mathlib.Core.Bool.{Bool, true, false, cond, not, _&&_, _||_, false≢true}
-use mathlib.Core.List.{List, [], _∷_}
-use borrow.Author.Tests.{eqb-true, leb-true, le-leb}
-use native.Mathlib.Omega.{arith}
-use lib.Dec.{leb, ltb, eqb}
+-- What a step answers, kind by kind: the rows of one record carried out, and the rows of starts, requests, resets and ticks.
+use Prim.Native.Nat.{ℕ, _+_}
+use mathlib.Core.Path.{_≡_, refl, ap, _∙_}
+use mathlib.Core.Bool.{true, false, cond}
+use mathlib.Core.List.{List}
+use lib.Dec.{ltb, eqb}
 use lib.ListN.{getD}
-use Rattle.laws.proofs.Tests.{by-cases, both-true, below, below-at, same-at}
+use Rattle.laws.proofs.Tests.{same-at}
 use Rattle.records.specs.declared.Record.{Record}
-use Rattle.table.specs.declared.Answer.{Answer}
 use Rattle.handover.specs.declared.Decision.{Decision}
-use Rattle.handover.specs.declared.Entry.{Entry}
 use Rattle.table.specs.declared.Found.{Found}
 use Rattle.table.specs.declared.Found.the-variants.{At, Nothing}
 use Rattle.table.specs.declared.Station.{Station}
-use Rattle.handover.specs.Events.{key, about, actionOf, message, silence, decision, refusal, listsFit, setFits, prepared, stored, serving, decide}
+use Rattle.handover.specs.Events.{about, actionOf, message, silence}
 use Rattle.fields.specs.Fields.{oneRecord, allOfNeighbour, sortOf, wellFormed}
-use Rattle.fields.proofs.Sorts.{every-kind}
 use Rattle.handover.specs.Numbers.{isFree, blank}
 use Rattle.table.specs.Sound.{Sound}
 use Rattle.table.specs.Step.{answer, refused, carried, aboutOne, resetOf, starting, startAt, tickAt, repeatOf, admittedAt, bySort, stepOf, issue, started, failure, granted, admission, taken, complete}
 use Rattle.table.specs.Table.{find, soonest, at, add, reset}
 use Rattle.handover.proofs.Rows.{rows, lastRow, rows-hold, dueRow, dueRows, due-rows-hold, row-of}
 use Rattle.table.proofs.Finding.{found-here}
-use Rattle.handover.proofs.Keys.{keyed-means}
 use Rattle.table.proofs.Placing.{found-place}
-
--- ---- the whole answer
 
 module _ (s : Station) (e : Record) (bearers : List ℕ) (room : ℕ) (formed : wellFormed e ≡ true) where
   -- A well-formed event does what its sort does.

@@ -1,7 +1,7 @@
 -- A step changes the units in use by what it admitted, or what the records that it ended held, and by nothing else.
 use Prim.Native.Nat.{ℕ, _+_, _≤_, _<_}
 use mathlib.Core.Path.{_≡_, refl, sym, ap, _∙_, subst}
-use mathlib.Core.Bool.{Bool, true, false, cond, not, _&&_, _||_, and-true, true≢false}
+use mathlib.Core.Bool.{Bool, true, false, cond, not, _&&_, _||_, true≢false}
 use mathlib.Core.List.{List, [], _∷_}
 use borrow.Author.Tests.{eqb-true, eqb-false, leb-true, lt-leb, ne-eqb, not-true}
 use native.Mathlib.Omega.{arith}
@@ -9,14 +9,14 @@ use lib.Dec.{leb, eqb}
 use lib.ListN.{getD}
 use Rattle.laws.proofs.Sums.{total-at, total-le, total-throughout}
 use Rattle.laws.specs.Sums.{total}
-use Rattle.laws.proofs.Tests.{by-cases, both-true, neither, on-either, below, below-at, same-at, refuted}
+use Rattle.laws.proofs.Tests.{by-cases, both-true, neither, on-either, same-at, refuted}
 use Rattle.records.specs.declared.Record.{Record}
 use Rattle.table.specs.declared.Answer.{Answer}
 use Rattle.handover.specs.declared.Entry.{Entry}
 use Rattle.table.specs.declared.Found.{Found}
 use Rattle.table.specs.declared.Found.the-variants.{At}
 use Rattle.table.specs.declared.Station.{Station}
-use Rattle.handover.specs.Events.{key, about, actionOf, resets, decide}
+use Rattle.handover.specs.Events.{about, actionOf, decide}
 use Rattle.fields.specs.Fields.{oneRecord, allOfNeighbour, soonestDue, newRecord, aRequest, noChange, sortOf, wellFormed}
 use Rattle.handover.specs.Numbers.{isHeld, isIncoming, blank}
 use Rattle.fields.proofs.Sorts.{every-of-sort}

@@ -1,7 +1,7 @@
 -- The answers that there are: what a step gives is one of these.
 use Prim.Native.Nat.{ℕ, _≤_}
 use mathlib.Core.Path.{_≡_, refl, _∙_}
-use mathlib.Core.Bool.{true, false}
+use mathlib.Core.Bool.{true}
 use mathlib.Core.List.{List}
 use borrow.Author.Tests.{eqb-true}
 use native.Mathlib.Omega.{arith}

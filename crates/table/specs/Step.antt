@@ -17,7 +17,7 @@ use Rattle.table.specs.declared.Found.the-variants.{At, Nothing}
 use Rattle.table.specs.declared.Outcome.{Outcome}
 use Rattle.table.specs.declared.Settings.{Settings}
 use Rattle.table.specs.declared.Station.{Station}
-use Rattle.handover.specs.Numbers.{isFree, blank, nextAfter, issueFrom}
+use Rattle.handover.specs.Numbers.{isFree, blank, preparing, held, nextAfter, issueFrom}
 use Rattle.fields.specs.Fields.{oneRecord, allOfNeighbour, soonestDue, newRecord, aRequest, noChange, sortOfEvent}
 use Rattle.handover.specs.Events.{about, actionOf, message, silence, decide}
 use Rattle.table.specs.Table.{find, soonest, at, put, add, reset}
@@ -53,18 +53,7 @@ issue s = issueFrom 64 (nextAfter (s .last)) (s .entries)
 
 -- "9: preparing, sends kind 1 with Old and the set, deadline clock plus prep"; "1, 4 for starts"
 abbrev pub started : Record → Station → Entry
-started e s =
-    record {
-      state = 1;
-      neighbour = e .neighbour;
-      old = record { 0 = issue s };
-      new = record { 0 = 0 };
-      requested = e .first;
-      admitted = 0;
-      status = 0;
-      units = 0;
-      deadline = s .clock + s .settings .prep;
-    }
+started e s = preparing (e .neighbour) (issue s) (e .first) (s .clock + s .settings .prep)
 
 abbrev pub starting : Record → ℕ → Station → Answer
 starting e i s = answer 0 0 0 (message 1 (e .neighbour) (issue s) 0 (e .first) 0 0) (add i (issue s) (started e s) s)
@@ -104,18 +93,7 @@ admission bearers s = admissionOf release8 (freeUnits s) (bearer.bearersIn (leng
 
 -- "1, done: a held record, deadline clock plus guard"
 abbrev pub heldFor : Record → Admission → Station → Entry
-heldFor e a s =
-    record {
-      state = 3;
-      neighbour = e .neighbour;
-      old = e .old;
-      new = record { 0 = issue s };
-      requested = 0;
-      admitted = a .admitted;
-      status = 0;
-      units = a .units;
-      deadline = s .clock + s .settings .guard;
-    }
+heldFor e a s = held (e .neighbour) (e .old .0) (issue s) (a .admitted) (a .units) (s .clock + s .settings .guard)
 
 -- "for a request sends 3", the reason being the reply number
 abbrev pub failure : ℕ → Record → Station → Answer

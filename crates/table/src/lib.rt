@@ -26,8 +26,9 @@ use handover::events::message;
 use handover::events::reset_word;
 use handover::events::silence;
 use handover::numbers::blank;
-use handover::numbers::next_after;
+use handover::numbers::held;
 use handover::numbers::own_is;
+use handover::numbers::preparing;
 use records::NewId;
 use records::OldId;
 use records::Record;
@@ -38,7 +39,7 @@ ghost use mathlib.Core.Bool.{cond};
 ghost use mathlib.Core.List.{[]};
 ghost use Rattle.bearers.specs.Admission.{judgeable, allFive};
 ghost use lib.ListN.{length};
-ghost use Rattle.handover.specs.Numbers.{isFree, ownIs, anyOf};
+ghost use Rattle.handover.specs.Numbers.{isFree, ownIs, anyOf, nextAfter};
 ghost use Rattle.table.specs.Table.{find as findOf, Puts, reset as resetTo};
 ghost use Rattle.table.specs.declared.Found.the-variants.{At};
 ghost use Rattle.table.specs.Sound.{Sound};
@@ -103,6 +104,14 @@ fn quiet(reply: u8) -> Outcome
         count: 0,
         message: silence(),
     }
+}
+
+// The number after an own ID.
+fn next_after(id: u16) -> u16
+    requires { ⌜ id < 4096 ⌝ }
+    ensures { λ r. ⌜ r ≡ nextAfter id ⌝ }
+{
+    if id == 4095 { 0 } else { id + 1 }
 }
 
 // A timer is 1 to 600,000 ms.
@@ -317,17 +326,8 @@ impl Station {
         }
         let old = self.issue();
         self.last = old;
-        self.entries[i] = Entry {
-            state: 1,
-            neighbour: e.neighbour,
-            old: OldId(old),
-            new: NewId(0),
-            requested: e.first,
-            admitted: 0,
-            status: 0,
-            units: 0,
-            deadline: self.clock + self.settings.prep as u64,
-        };
+        let deadline = self.clock + self.settings.prep as u64;
+        self.entries[i] = preparing(e.neighbour, OldId(old), e.first, deadline);
         Answer {
             outcome: Outcome {
                 reply: 0,
@@ -404,17 +404,15 @@ impl Station {
         let old = e.old;
         self.last = new;
         self.used = self.used + a.units;
-        self.entries[i] = Entry {
-            state: 3,
-            neighbour: e.neighbour,
+        let deadline = self.clock + self.settings.guard as u64;
+        self.entries[i] = held(
+            e.neighbour,
             old,
-            new: NewId(new),
-            requested: 0,
-            admitted: a.admitted,
-            status: 0,
-            units: a.units,
-            deadline: self.clock + self.settings.guard as u64,
-        };
+            NewId(new),
+            a.admitted,
+            a.units,
+            deadline,
+        );
         Answer {
             outcome: Outcome {
                 reply: 0,

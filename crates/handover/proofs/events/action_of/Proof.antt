@@ -2,12 +2,12 @@
 use Prim.Native.Nat.{ℕ, _≤_}
 use borrow.Author.Tests.{leb-true}
 use mathlib.Core.List.{[]}
-use mathlib.Core.Path.{_≡_, refl, sym}
+use mathlib.Core.Path.{refl, sym}
 use lib.Dec.{leb}
 use lib.ListN.{length, getD, List·getD-eq-default}
 use native.Mathlib.Omega.{arith}
 use Rattle.laws.proofs.Tests.{every-at}
-use Rattle.handover.specs.Events.{actions, actionOf}
+use Rattle.handover.specs.Events.{actions}
 use borrow.Author.Needs.{needs}
 use Rattle.handover.proofs.events.action_of.Statement.{statement}
 use Rattle.handover.proofs.events.action_of.Tie as tie

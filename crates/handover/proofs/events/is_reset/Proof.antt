@@ -1,5 +1,4 @@
 -- A record that the event is not about falls out; of the others the table of actions decides.
-use mathlib.Core.Bool.{_&&_}
 use mathlib.Core.Path.{_∙_, sym}
 use borrow.Author.Tests.{not-true, not-false}
 use borrow.Author.Needs.{needs}

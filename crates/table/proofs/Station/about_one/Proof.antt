@@ -2,7 +2,9 @@
 use Prim.Native.Nat.{_≤_, _-_}
 use mathlib.Core.Path.{_≡_, refl, _∙_, sym, subst}
 use native.Mathlib.Omega.{arith}
-use lib.ListN.{drop}
+use mathlib.Core.Bool.{true, false}
+use lib.ListN.{getD, drop}
+use Rattle.handover.specs.Numbers.{blank}
 use Rattle.handover.specs.declared.Decision.{Decision}
 use Rattle.handover.specs.Events.{about}
 use Rattle.table.specs.declared.Found.the-variants.{At, Nothing}
@@ -54,7 +56,7 @@ unfolding findFrom
 returns c =
     let a = c .before .before .before .before .before .before .before .before .args in
     let l = c .before .before .before .before .before .before .loop in
-    let mine = sym (rw (c .before .before .before .before .before .before .before .key-of .ensures) at (c .before .before .before .is-about .ensures)) ∙ c .before .before .if1 .taken in
+    let mine : about (a .e) (getD (a .t1 .entries) (l .i) blank) ≡ true = sym (rw (c .before .before .before .before .before .before .before .key-of .ensures) at (c .before .before .before .is-about .ensures)) ∙ c .before .before .if1 .taken in
     let found : find (about (a .e)) (a .t1) ≡ At (l .i) =
     sym (rw mine at (walk-on (a .t1 .entries) (c .before .before .before .before .before .before .before .before .pre .places) (l .i) (findFrom (about (a .e)) (l .i)) _ (l .inv .1) (c .before .before .before .before .before .loop-test .taken))) in
     rw found (c .carried .ensures ∙ rw (c .before .decide .ensures))
@@ -70,7 +72,7 @@ unfolding findFrom
 loop-again c =
     let a = c .before .before .before .before .before .before .args in
     let l = c .before .before .before .before .loop in
-    let other = sym (rw (c .before .before .before .before .before .key-of .ensures) at (c .before .is-about .ensures)) ∙ c .if1 .left in
+    let other : about (a .e) (getD (a .t1 .entries) (l .i) blank) ≡ false = sym (rw (c .before .before .before .before .before .key-of .ensures) at (c .before .is-about .ensures)) ∙ c .if1 .left in
     (omega arith, rw other at (walk-on (a .t1 .entries) (c .before .before .before .before .before .before .pre .places) (l .i) (findFrom (about (a .e)) (l .i)) _ (l .inv .1) (c .before .before .before .loop-test .taken)))
 
 quiet-requires : tie.Need-quiet-requires Inv-loop μ-loop

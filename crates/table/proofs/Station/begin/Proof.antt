@@ -19,14 +19,17 @@ returns c =
 issue-requires : tie.Need-issue-requires
 issue-requires c κs = search needs
 
-cast-t16 : tie.Need-cast-t16
-cast-t16 c = search needs
+cast-deadline : tie.Need-cast-deadline
+cast-deadline c = search needs
 
-add-t17 : tie.Need-add-t17
-add-t17 c = search needs
+add-deadline : tie.Need-add-deadline
+add-deadline c = search needs
 
-mul-t19 : tie.Need-mul-t19
-mul-t19 c = search needs
+preparing-requires : tie.Need-preparing-requires
+preparing-requires c κs = search needs
+
+mul-t18 : tie.Need-mul-t18
+mul-t18 c = search needs
 
 element-set-from-self : tie.Need-element-set-from-self
 element-set-from-self c = search needs
@@ -36,7 +39,8 @@ message-requires c κs = search needs
 
 returns-2 : tie.Need-returns-2
 returns-2 c =
-    rw (← c .before .before .before .action-of .ensures, not-false (eqb (c .before .before .before .action-of .result) 14) (c .before .before .if1 .left), c .message .ensures, c .before .issue .ensures .0, add-zero (c .before .before .before .before .args .t1 .used))
+    let action = c .before .before .before .before .action-of in
+    rw (← action .ensures, not-false (eqb (action .result) 14) (c .before .before .before .if1 .left), c .message .ensures, c .before .preparing .ensures, c .before .before .issue .ensures .0, add-zero (c .before .before .before .before .before .args .t1 .used))
 
 pub begin-spec : {M : Type 1} → statement M
 begin-spec =
@@ -46,9 +50,10 @@ begin-spec =
     quiet-requires
     returns
     issue-requires
-    cast-t16
-    add-t17
-    mul-t19
+    cast-deadline
+    add-deadline
+    preparing-requires
+    mul-t18
     element-set-from-self
     message-requires
     returns-2)

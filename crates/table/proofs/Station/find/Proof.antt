@@ -2,7 +2,9 @@
 use Prim.Native.Nat.{_≤_, _-_}
 use mathlib.Core.Path.{_≡_, refl, _∙_, sym}
 use native.Mathlib.Omega.{arith}
-use lib.ListN.{drop}
+use mathlib.Core.Bool.{true, false}
+use lib.ListN.{getD, drop}
+use Rattle.handover.specs.Numbers.{blank}
 use Rattle.handover.specs.Events.{about}
 use Rattle.table.specs.Table.{find, findFrom}
 use Rattle.table.proofs.Walking.{walk-on, walk-end}
@@ -36,7 +38,7 @@ unfolding findFrom
 returns c =
     let a = c .before .before .before .before .before .before .args in
     let l = c .before .before .before .before .loop in
-    let mine = sym (rw (c .before .before .before .before .before .key-of .ensures) at (c .before .is-about .ensures)) ∙ c .if1 .taken in
+    let mine : about (a .e) (getD (a .t1 .entries) (l .i) blank) ≡ true = sym (rw (c .before .before .before .before .before .key-of .ensures) at (c .before .is-about .ensures)) ∙ c .if1 .taken in
     rw mine at (walk-on (a .t1 .entries) (c .before .before .before .before .before .before .pre) (l .i) (findFrom (about (a .e)) (l .i)) _ (l .inv .1) (c .before .before .before .loop-test .taken))
 
 add-i : tie.Need-add-i Inv-loop μ-loop
@@ -50,7 +52,7 @@ unfolding findFrom
 loop-again c =
     let a = c .before .before .before .before .before .before .args in
     let l = c .before .before .before .before .loop in
-    let other = sym (rw (c .before .before .before .before .before .key-of .ensures) at (c .before .is-about .ensures)) ∙ c .if1 .left in
+    let other : about (a .e) (getD (a .t1 .entries) (l .i) blank) ≡ false = sym (rw (c .before .before .before .before .before .key-of .ensures) at (c .before .is-about .ensures)) ∙ c .if1 .left in
     (omega arith, rw other at (walk-on (a .t1 .entries) (c .before .before .before .before .before .before .pre) (l .i) (findFrom (about (a .e)) (l .i)) _ (l .inv .1) (c .before .before .before .loop-test .taken)))
 
 returns-2 : tie.Need-returns-2 Inv-loop μ-loop

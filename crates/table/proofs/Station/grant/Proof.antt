@@ -28,11 +28,14 @@ issue-requires c κs = search needs
 add-self : tie.Need-add-self
 add-self c = search needs
 
-cast-t19 : tie.Need-cast-t19
-cast-t19 c = search needs
+cast-deadline : tie.Need-cast-deadline
+cast-deadline c = search needs
 
-add-t20 : tie.Need-add-t20
-add-t20 c = search needs
+add-deadline : tie.Need-add-deadline
+add-deadline c = search needs
+
+held-requires : tie.Need-held-requires
+held-requires c κs = search needs
 
 mul-t22 : tie.Need-mul-t22
 mul-t22 c = search needs
@@ -45,8 +48,8 @@ message-requires c κs = search needs
 
 returns-3 : tie.Need-returns-3
 returns-3 c =
-    let a = c .before .before .before .before .before .before .before .before .args in
-    rw (ne-eqb (a .a .admitted) 0 (c .before .before .before .before .before .before .if1 .left), ← c .before .before .before .before .before .action-of .ensures, not-false (eqb (c .before .before .before .before .before .action-of .result) 15) (c .before .before .before .before .if2 .left), c .message .ensures, c .before .before .before .issue .ensures .0)
+    let action = c .before .before .before .before .before .before .action-of in
+    rw (ne-eqb (c .before .before .before .before .before .before .before .before .before .args .a .admitted) 0 (c .before .before .before .before .before .before .before .if1 .left), ← action .ensures, not-false (eqb (action .result) 15) (c .before .before .before .before .before .if2 .left), c .message .ensures, c .before .held .ensures, c .before .before .before .before .issue .ensures .0)
 
 pub grant-spec : {M : Type 1} → statement M
 grant-spec =
@@ -59,8 +62,9 @@ grant-spec =
     returns-2
     issue-requires
     add-self
-    cast-t19
-    add-t20
+    cast-deadline
+    add-deadline
+    held-requires
     mul-t22
     element-set-from-self
     message-requires

@@ -1,7 +1,7 @@
 -- What is found from here on is what is found in all.
 use borrow.Author.Tests.{eq-eqb, ne-eqb}
 use Prim.Native.Nat.{_≤_, _-_}
-use mathlib.Core.Path.{_≡_, refl, sym}
+use mathlib.Core.Path.{_≡_, refl}
 use native.Mathlib.Omega.{arith}
 use lib.ListN.{drop}
 use Rattle.handover.specs.Numbers.{isFree}

@@ -1,8 +1,8 @@
 -- Each arm is that of the test.
 use borrow.Author.Tests.{eq-eqb, ne-eqb}
 use borrow.Author.Needs.{needs}
-use Rattle.handover.proofs.numbers.next_after.Statement.{statement}
-use Rattle.handover.proofs.numbers.next_after.Tie as tie
+use Rattle.table.proofs.next_after.Statement.{statement}
+use Rattle.table.proofs.next_after.Tie as tie
 
 add-result : tie.Need-add-result
 add-result c = search needs
