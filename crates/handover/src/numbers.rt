@@ -40,14 +40,7 @@ pub fn preparing(neighbour: u8, id: OldId, set: u16, deadline: u64) -> Entry
 }
 
 // What an admitted request makes: a held record.
-pub fn held(
-    neighbour: u8,
-    old: OldId,
-    id: NewId,
-    admitted: u16,
-    units: u32,
-    deadline: u64,
-) -> Entry
+pub fn held(neighbour: u8, old: OldId, id: NewId, admitted: u16, units: u32, deadline: u64) -> Entry
     ensures { λ r. ⌜ r ≡ heldOf neighbour (old .0) (id .0) admitted units deadline ⌝ }
 {
     Entry {

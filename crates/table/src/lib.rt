@@ -40,11 +40,11 @@ ghost use mathlib.Core.List.{[]};
 ghost use Rattle.bearers.specs.Admission.{judgeable, allFive};
 ghost use lib.ListN.{length};
 ghost use Rattle.handover.specs.Numbers.{isFree, ownIs, anyOf, nextAfter};
-ghost use Rattle.table.specs.Table.{find as findOf, Puts, reset as resetTo};
+ghost use Rattle.table.specs.Table.{find as findOf, soonest as soonestOf, Puts, reset as resetTo};
 ghost use Rattle.table.specs.declared.Found.the-variants.{At};
 ghost use Rattle.table.specs.Sound.{Sound};
 ghost use Rattle.table.specs.Reached.{Reached};
-ghost use Rattle.table.specs.Step.{issue as issueOf, quiet as quietOf, refused as refusedOf, carried as carriedOf, aboutOne, tickOf, startAt, resetOf, failure as failureOf, grantAt, admittedAt, verdictsAt, requestOf, requestVerdicts, stepOf, verdictsOf, isTimer, settled, fresh as freshOf, birthOf};
+ghost use Rattle.table.specs.Step.{issue as issueOf, quiet as quietOf, refused as refusedOf, carried as carriedOf, aboutOne, tickOf, startAt, resetOf, failure as failureOf, granted, grantAt, admittedAt, verdictsAt, requestOf, requestVerdicts, stepOf, verdictsOf, isTimer, settled, fresh as freshOf, birthOf};
 ghost use Rattle.handover.specs.Events.{about};
 
 // The capacity in units, and TRELOCprep, TX2RELOCoverall and the guard in ms.
@@ -264,17 +264,11 @@ impl Station {
         }
     }
 
-    // A tick: the clock, and the due record with the least deadline, then the least own ID.
-    fn tick(mut self, e: Record) -> Answer
-        requires { ⌜ Sound self ⌝ }
-        ensures { λ a. ⌜ a ≡ tickOf e self ⌝ }
+    // The place of the due record with the least deadline, then the least own ID.
+    fn soonest(self, e: Record) -> Found
+        requires { ⌜ length (self .entries) ≡ 64 ⌝ }
+        ensures { λ r. ⌜ r ≡ soonestOf e self ⌝ }
     {
-        if e.time < self.clock {
-            return Answer {
-                outcome: quiet(8),
-                station: self,
-            };
-        }
         let key = key_of(e.kind);
         let mut best = Best {
             place: 0,
@@ -286,16 +280,35 @@ impl Station {
                 best = Best { place: i, entry: r };
             }
         }
-        self.clock = e.time;
         if best.entry.state == 0 {
+            return Found::Nothing;
+        }
+        Found::At(best.place)
+    }
+
+    // A tick: the clock, and the soonest record that is due.
+    fn tick(mut self, e: Record) -> Answer
+        requires { ⌜ Sound self ⌝ }
+        ensures { λ a. ⌜ a ≡ tickOf e self ⌝ }
+    {
+        if e.time < self.clock {
             return Answer {
-                outcome: quiet(9),
+                outcome: quiet(8),
                 station: self,
             };
         }
-        let i = best.place;
-        let r = self.entries[i];
-        self.carried(i, decide(e, r, 0))
+        let found = self.soonest(e);
+        self.clock = e.time;
+        match found {
+            Found::At(i) => {
+                let r = self.entries[i];
+                self.carried(i, decide(e, r, 0))
+            }
+            Found::Nothing => Answer {
+                outcome: quiet(9),
+                station: self,
+            },
+        }
     }
 
     // A start, which wants a free place.
@@ -386,8 +399,8 @@ impl Station {
         }
     }
 
-    // What was admitted is held in a free place.
-    fn grant(mut self, e: Record, a: Admission, i: usize) -> Answer
+    // What was admitted is held in a free place, if it is anything.
+    fn grant(self, e: Record, a: Admission, i: usize) -> Answer
         requires { ⌜ (i < 64) × (a .units ≤ self .settings .capacity - self .used) × Sound self ⌝ }
         ensures { λ x. ⌜ x ≡ grantAt e a i self ⌝ }
     {
@@ -400,19 +413,20 @@ impl Station {
                 station: self,
             };
         }
+        self.hold(e, a, i)
+    }
+
+    // A held record in a free place.
+    fn hold(mut self, e: Record, a: Admission, i: usize) -> Answer
+        requires { ⌜ (i < 64) × (a .units ≤ self .settings .capacity - self .used) × Sound self ⌝ }
+        ensures { λ x. ⌜ x ≡ granted e a i self ⌝ }
+    {
         let new = self.issue();
         let old = e.old;
         self.last = new;
         self.used = self.used + a.units;
         let deadline = self.clock + self.settings.guard as u64;
-        self.entries[i] = held(
-            e.neighbour,
-            old,
-            NewId(new),
-            a.admitted,
-            a.units,
-            deadline,
-        );
+        self.entries[i] = held(e.neighbour, old, NewId(new), a.admitted, a.units, deadline);
         Answer {
             outcome: Outcome {
                 reply: 0,
