@@ -69,6 +69,10 @@ eqb-sym a b =
     (λ t. t ∙ sym (eq-eqb b a (sym (eqb-true a b t))))
     (λ t. t ∙ sym (ne-eqb b a (λ same. eqb-false a b t (sym same))))
 
+-- Two results that a contract sets equal to the same are equal.
+pub once : {A : Type 0} (x a b : A) → a ≡ x → b ≡ x → a ≡ b
+once x a b p q = p ∙ sym q
+
 -- ---- every entry of a table
 
 -- whether a test holds of each element of a list and its place
