@@ -16,7 +16,7 @@ use Rattle.records.specs.declared.stream.Piece.{Piece}
 use Rattle.records.proofs.Cutting as cutting
 use Rattle.records.proofs.Whole.{same-piece}
 use Rattle.lines.specs.declared.Run.{Run}
-use Rattle.lines.specs.Lines.{isWhole, answerTo, after, lineFor, Work, beginning, goesOn, onward, workOn, workOf, linesIn, linesOf}
+use Rattle.lines.specs.Lines.{isWhole, answerTo, verdictRoom, after, lineFor, Work, beginning, goesOn, onward, workOn, workOf, linesIn, linesOf}
 use Rattle.lines.proofs.Going.{some-byte, goes, stops}
 
 -- An event that is taken is the same with more behind it; at the end nothing is.
@@ -69,7 +69,7 @@ first-whole ended run rest more none t =
     let event : firstOf (rest ++ more) ≡ firstOf rest = ap (λ (k : ℕ). take k (rest ++ more)) same ∙ take-append-le size rest more within in
     let left : drop (pieceOf (rest ++ more) .size) (rest ++ more) ≡ drop size rest ++ more = ap (λ (k : ℕ). drop k (rest ++ more)) same ∙ drop-append-le size rest more within in
     first-event run (rest ++ more) (omega (arith, length-append rest more, some-byte ended rest t))
-    ∙ rw (ap (answerTo 256 (run .station)) event, left)
+    ∙ rw (ap (answerTo verdictRoom (run .station)) event, left)
 
 -- ---- blocks
 

@@ -17,7 +17,7 @@ use Rattle.table.specs.declared.Answer.{Answer}
 use Rattle.table.specs.declared.Station.{Station}
 use Rattle.table.specs.Reached.{Reached}
 use Rattle.lines.specs.declared.Run.{Run}
-use Rattle.lines.specs.Lines.{longest, lineOf, isWhole, answerTo, Work, goesOn, onward, workOn, workOf, progress}
+use Rattle.lines.specs.Lines.{longest, lineOf, isWhole, answerTo, verdictRoom, Work, goesOn, onward, workOn, workOf, progress}
 use Rattle.lines.proofs.Longest.{line-most}
 use Rattle.lines.proofs.Going.{some-byte, goes, stops}
 use Rattle.buffers.specs.Buffers.{Writes}
@@ -81,7 +81,7 @@ module _ {bytes : List ℕ} {ended : Bool} {buffer : List ℕ} {run : Run} {out 
       some = rw (head .front) (some-byte ended (drop taken bytes) (rw (head .front) at (sym found ∙ both .0)))
 
       -- One event: the next head, from what the turn's calls gave.
-      pub turned : (left : List ℕ) (a : Answer) (room place' end : ℕ) (piece' : Piece) → room ≡ 256
+      pub turned : (left : List ℕ) (a : Answer) (room place' end : ℕ) (piece' : Piece) → room ≡ verdictRoom
           → a ≡ answerTo room station (take (taken + piece .size - taken) (drop taken bytes)) → Reached (a .station)
           → Writes out left written (lineOf place (a .outcome)) end
           → place' ≡ (place + 1) % 2 ^ 64
@@ -96,7 +96,7 @@ module _ {bytes : List ℕ} {ended : Bool} {buffer : List ℕ} {run : Run} {out 
           let sized : size ≡ pieceOf rest .size = ap (λ (p : Piece). p .size) (head .front) in
           let span : taken + size - taken ≡ pieceOf rest .size = omega arith in
           let event : take (taken + size - taken) rest ≡ firstOf rest = ap (λ (k : ℕ). take k rest) span in
-          let given : a ≡ answerTo 256 station (firstOf rest) = answer ∙ rw (lent, event) in
+          let given : a ≡ answerTo verdictRoom station (firstOf rest) = answer ∙ rw (lent, event) in
           let further : head .most ≡ suc most = omega (arith, some, size-left) in
           let moved : working (a .station) place' (taken + size) (head .text ++ line) ≡ onward bytes w = rw (given, counts, sized) in
           record {

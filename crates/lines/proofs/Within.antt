@@ -12,7 +12,7 @@ use Rattle.records.specs.Stream.{pieceOf, firstOf}
 use Rattle.records.proofs.Cutting as cutting
 use Rattle.lines.specs.declared.Progress.{Progress}
 use Rattle.lines.specs.declared.Run.{Run}
-use Rattle.lines.specs.Lines.{isWhole, answerTo, longest, lineOf, Work, beginning, goesOn, onward, workOn, workOf, progress}
+use Rattle.lines.specs.Lines.{isWhole, answerTo, verdictRoom, longest, lineOf, Work, beginning, goesOn, onward, workOn, workOf, progress}
 use Rattle.lines.proofs.Longest.{line-most}
 use Rattle.lines.proofs.Going.{goes, stops}
 
@@ -26,7 +26,7 @@ module _ (ended : Bool) (room : ℕ) (bytes : List ℕ) where
       let rest = drop (w .taken) bytes in
       let place = w .run .place in
       let fits : leb longest (room - length (w .text)) ≡ true = both-true (isWhole ended (pieceOf rest)) _ t .1 in
-      let outcome = answerTo 256 (w .run .station) (firstOf rest) .outcome in
+      let outcome = answerTo verdictRoom (w .run .station) (firstOf rest) .outcome in
       record {
         taken = omega (arith, cutting.onward rest .0, length-drop (w .taken) bytes);
         written = omega (arith, length-append (w .text) (lineOf place outcome), line-most place outcome, leb-true longest (room - length (w .text)) fits);

@@ -48,16 +48,20 @@ answerTo room s event = stepOf s (pieceOf event .head) (drop 32 event) room
 abbrev pub verdictsTo : Station → List ℕ → List ℕ → List ℕ
 verdictsTo s event buffer = verdictsOf s (pieceOf event .head) (drop 32 event) buffer
 
+-- a run lends so many places for verdicts, one for each bearer that a request can have
+abbrev pub verdictRoom : ℕ
+verdictRoom = 256
+
 -- "place counts events": it wraps after 64 bits
 abbrev pub after : Run → List ℕ → Run
 after run rest =
     record {
-      station = answerTo 256 (run .station) (firstOf rest) .station;
+      station = answerTo verdictRoom (run .station) (firstOf rest) .station;
       place = (run .place + 1) % 2 ^ 64;
     }
 
 abbrev pub lineFor : Run → List ℕ → List ℕ
-lineFor run rest = lineOf (run .place) (answerTo 256 (run .station) (firstOf rest) .outcome)
+lineFor run rest = lineOf (run .place) (answerTo verdictRoom (run .station) (firstOf rest) .outcome)
 
 -- "settings capacity 100, prep 50, overall 2,000, guard 3,000"
 abbrev pub settings : Settings

@@ -1,4 +1,5 @@
 // Events in, lines out: how the bytes of a stream become the lines of the station program.
+use bearers::MOST;
 use buffers::digits::cell;
 use buffers::digits::cells;
 use records::Read;
@@ -109,7 +110,7 @@ impl Run {
         let mut place = self.place;
         let mut taken: usize = 0;
         let mut written: usize = 0;
-        let mut verdicts = [0u8; 256];
+        let mut verdicts = [0u8; MOST];
         let mut piece = cut(bytes);
         while is_whole(piece, ended) & (LONGEST <= out.len() - written) {
             let end = taken + piece.size;

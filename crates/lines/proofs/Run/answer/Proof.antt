@@ -5,13 +5,14 @@ use mathlib.Core.List.{[]}
 use native.Mathlib.Omega.{arith}
 use lib.ListN.{length}
 use Rattle.buffers.proofs.Writing.{nothing}
+use Rattle.lines.specs.Lines.{verdictRoom}
 use Rattle.lines.proofs.Turning.{Head, size-left, same-length as kept-length, returned, has-room, some, turned}
 use Rattle.lines.proofs.Run.answer.Statement.{statement}
 use Rattle.lines.proofs.Run.answer.Tie as tie
 
 abbrev Inv-loop : tie.InvT-loop
 Inv-loop bytes ended out₀ station₀ place₀ taken₀ written₀ verdicts₀ piece₀ out station place taken written verdicts piece =
-    Head bytes ended out₀ (record { station = station₀; place = place₀ }) out station place taken written piece × (length verdicts ≡ 256)
+    Head bytes ended out₀ (record { station = station₀; place = place₀ }) out station place taken written piece × (length verdicts ≡ verdictRoom)
 
 abbrev μ-loop : tie.MeasureT-loop
 μ-loop bytes ended out₀ station₀ place₀ taken₀ written₀ verdicts₀ piece₀ out station place taken written verdicts piece = length bytes - taken
