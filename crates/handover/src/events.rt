@@ -2,16 +2,14 @@
 use crate::Decision;
 use crate::Entry;
 use crate::numbers::blank;
-use crate::numbers::own;
 use records::NewId;
 use records::OldId;
 use records::Record;
 ghost use mathlib.Core.Path.{_≡_};
-ghost use mathlib.Core.Bool.{cond, _&&_, _||_};
+ghost use mathlib.Core.Bool.{cond};
 ghost use lib.Dec.{eqb};
 ghost use lib.ListN.{getD};
-ghost use Rattle.handover.specs.Numbers.{isFree};
-ghost use Rattle.handover.specs.Events.{newFits, keyed, keyRow, actionOf, resetsBy, dueBy, sooner, message as messageOf, silence as silenceOf, listsFit, setFits, refusal as refusalOf, decision, prepared, stored, serving, lastWord, decide as decideOf};
+ghost use Rattle.handover.specs.Events.{newFits, keyed, keyRow, actionOf, resetsBy, message as messageOf, silence as silenceOf, listsFit, setFits, refusal as refusalOf, decision, prepared, stored, serving, lastWord, decide as decideOf};
 
 // How many kinds there are, and how many states, the one that is none counted too.
 const KINDS: usize = 18;
@@ -124,19 +122,6 @@ pub fn is_reset(e: Record, r: Entry, key: [u8; 5]) -> bool
         return false;
     }
     action_of(e.kind, r.state) == RESET
-}
-
-// Whether a record is due, and sooner than the best so far. Most are not due: that is looked at first.
-pub fn is_sooner(e: Record, key: [u8; 5], r: Entry, best: Entry) -> bool
-    ensures { λ x. ⌜ x ≡ (dueBy (λ k. getD key k 0) e r && (isFree best || sooner r best)) ⌝ }
-{
-    if e.time < r.deadline {
-        return false;
-    }
-    let mine = own(r);
-    let its = own(best);
-    let sooner = (r.deadline < best.deadline) | ((r.deadline == best.deadline) & (mine < its));
-    is_about(e, r, key) & ((best.state == 0) | sooner)
 }
 
 // A message: its kind, the neighbour it goes to, and the fields that kinds use.

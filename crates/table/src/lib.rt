@@ -20,13 +20,13 @@ use handover::events::action_of;
 use handover::events::decide;
 use handover::events::is_about;
 use handover::events::is_reset;
-use handover::events::is_sooner;
 use handover::events::key_of;
 use handover::events::message;
 use handover::events::reset_word;
 use handover::events::silence;
 use handover::numbers::blank;
 use handover::numbers::held;
+use handover::numbers::own;
 use handover::numbers::own_is;
 use handover::numbers::preparing;
 use records::NewId;
@@ -35,17 +35,17 @@ use records::Record;
 use records::SIZE;
 ghost use mathlib.Core.Path.{_≡_};
 ghost use Prim.Native.Nat.{_-_, _/_, _≤_, _<_};
-ghost use mathlib.Core.Bool.{cond};
+ghost use mathlib.Core.Bool.{cond, _&&_, _||_};
 ghost use mathlib.Core.List.{[]};
 ghost use Rattle.bearers.specs.Admission.{judgeable, allFive};
-ghost use lib.ListN.{length};
+ghost use lib.ListN.{length, getD};
 ghost use Rattle.handover.specs.Numbers.{isFree, ownIs, anyOf, nextAfter};
-ghost use Rattle.table.specs.Table.{find as findOf, soonest as soonestOf, Puts, reset as resetTo};
+ghost use Rattle.table.specs.Table.{find as findOf, Puts, reset as resetTo};
 ghost use Rattle.table.specs.declared.Found.the-variants.{At};
 ghost use Rattle.table.specs.Sound.{Sound};
 ghost use Rattle.table.specs.Reached.{Reached};
 ghost use Rattle.table.specs.Step.{issue as issueOf, quiet as quietOf, refused as refusedOf, carried as carriedOf, aboutOne, tickOf, startAt, resetOf, failure as failureOf, granted, grantAt, admittedAt, verdictsAt, requestOf, requestVerdicts, stepOf, verdictsOf, isTimer, settled, fresh as freshOf, birthOf};
-ghost use Rattle.handover.specs.Events.{about};
+ghost use Rattle.handover.specs.Events.{about, dueBy, sooner};
 
 // The capacity in units, and TRELOCprep, TX2RELOCoverall and the guard in ms.
 pub struct Settings {
@@ -92,6 +92,19 @@ pub enum Found {
 pub struct Best {
     place: usize,
     entry: Entry,
+}
+
+// Whether a record is due, and sooner than the best so far. Most are not due: that is looked at first.
+fn is_sooner(e: Record, key: [u8; 5], r: Entry, best: Entry) -> bool
+    ensures { λ x. ⌜ x ≡ (dueBy (λ k. getD key k 0) e r && (isFree best || sooner r best)) ⌝ }
+{
+    if e.time < r.deadline {
+        return false;
+    }
+    let mine = own(r);
+    let its = own(best);
+    let sooner = (r.deadline < best.deadline) | ((r.deadline == best.deadline) & (mine < its));
+    is_about(e, r, key) & ((best.state == 0) | sooner)
 }
 
 // A reply that changes nothing and sends nothing.
@@ -264,11 +277,17 @@ impl Station {
         }
     }
 
-    // The place of the due record with the least deadline, then the least own ID.
-    fn soonest(self, e: Record) -> Found
-        requires { ⌜ length (self .entries) ≡ 64 ⌝ }
-        ensures { λ r. ⌜ r ≡ soonestOf e self ⌝ }
+    // A tick: the clock, and the due record with the least deadline, then the least own ID.
+    fn tick(mut self, e: Record) -> Answer
+        requires { ⌜ Sound self ⌝ }
+        ensures { λ a. ⌜ a ≡ tickOf e self ⌝ }
     {
+        if e.time < self.clock {
+            return Answer {
+                outcome: quiet(8),
+                station: self,
+            };
+        }
         let key = key_of(e.kind);
         let mut best = Best {
             place: 0,
@@ -280,35 +299,16 @@ impl Station {
                 best = Best { place: i, entry: r };
             }
         }
+        self.clock = e.time;
         if best.entry.state == 0 {
-            return Found::Nothing;
-        }
-        Found::At(best.place)
-    }
-
-    // A tick: the clock, and the soonest record that is due.
-    fn tick(mut self, e: Record) -> Answer
-        requires { ⌜ Sound self ⌝ }
-        ensures { λ a. ⌜ a ≡ tickOf e self ⌝ }
-    {
-        if e.time < self.clock {
             return Answer {
-                outcome: quiet(8),
+                outcome: quiet(9),
                 station: self,
             };
         }
-        let found = self.soonest(e);
-        self.clock = e.time;
-        match found {
-            Found::At(i) => {
-                let r = self.entries[i];
-                self.carried(i, decide(e, r, 0))
-            }
-            Found::Nothing => Answer {
-                outcome: quiet(9),
-                station: self,
-            },
-        }
+        let i = best.place;
+        let r = self.entries[i];
+        self.carried(i, decide(e, r, 0))
     }
 
     // A start, which wants a free place.

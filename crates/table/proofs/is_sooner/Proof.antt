@@ -2,10 +2,10 @@
 use borrow.Author.Tests.{le-leb, lt-leb}
 use mathlib.Core.Bool.{and-false, and-true}
 use lib.ListN.{getD}
 use Rattle.handover.specs.Events.{keyed}
 use borrow.Author.Needs.{needs}
-use Rattle.handover.proofs.events.is_sooner.Statement.{statement}
-use Rattle.handover.proofs.events.is_sooner.Tie as tie
+use Rattle.table.proofs.is_sooner.Statement.{statement}
+use Rattle.table.proofs.is_sooner.Tie as tie
 
 returns : tie.Need-returns
 returns c =
