@@ -8,7 +8,7 @@ use lib.Dec.{leb}
 use lib.ListN.{length, length-append}
 use lib.Seq.{sets}
 use Rattle.laws.proofs.Tests.{by-cases}
-use Rattle.buffers.specs.Buffers.{Writes}
+use Rattle.buffers.specs.Buffers.{Writes, fitting}
 use Rattle.buffers.specs.Digits.{sizeIn, size, digits, cellRoom, cell, spaced}
 
 -- A number below ten has one digit.
@@ -39,8 +39,9 @@ length-digits zero n = refl
 length-digits (suc k) n = length-append (digits k (n / 10)) _ ∙ rw (length-digits k (n / 10)) (omega arith)
 
 -- All digits of a number, stored from a place on.
-pub spelled : {before after : List ℕ} (at n k : ℕ) → k ≡ size n → after ≡ sets before at (digits k n) → Writes before after at (digits (size n) n) (at + k)
-spelled at n k e f = record { next = rw (e, length-digits (size n) n); bytes = rw e at f }
+pub spelled : {before after : List ℕ} (at n k : ℕ) → k ≡ size n → at + k ≤ length before → after ≡ sets before at (fitting (at + k) before (digits k n))
+    → Writes before after at (digits (size n) n) (at + k)
+spelled {before} at n k e room f = record { next = rw (e, length-digits (size n) n); bytes = rw (le-leb (at + k) (length before) room, e) at f }
 
 -- A number and the byte after it have room in as many bytes as are said to be enough.
 pub cell-most : (n after : ℕ) → length (cell n after) ≤ cellRoom

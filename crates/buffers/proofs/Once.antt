@@ -1,9 +1,9 @@
 -- Two results that satisfy a contract are equal: what each public entry gives is settled by its arguments.
-use Prim.Native.Nat.{ℕ, min}
+use Prim.Native.Nat.{ℕ, _+_}
 use mathlib.Core.Path.{_≡_, sym, _∙_}
 use mathlib.Core.List.{List}
 use lib.Seq.{sets}
-use Rattle.buffers.specs.Buffers.{Writes}
+use Rattle.buffers.specs.Buffers.{Writes, fitting}
 use Rattle.buffers.specs.Digits.{size, digits}
 
 -- Of the same buffer, place and text there is one place after it, and one buffer afterwards. So it is of every contract that says what
@@ -15,9 +15,5 @@ writes-once p q = (p .next ∙ sym (q .next), p .bytes ∙ sym (q .bytes))
 pub digits-once : (n a b : ℕ) → a ≡ size n → b ≡ size n → a ≡ b
 digits-once n a b p q = p ∙ sym q
 
-pub spell-once : (n k at : ℕ) (out v w : List ℕ) → v ≡ sets out at (digits k n) → w ≡ sets out at (digits k n) → v ≡ w
+pub spell-once : (n k at : ℕ) (out v w : List ℕ) → v ≡ sets out at (fitting (at + k) out (digits k n)) → w ≡ sets out at (fitting (at + k) out (digits k n)) → v ≡ w
 spell-once n k at out v w p q = p ∙ sym q
-
--- Two numbers have one least.
-pub least-once : (m n a b : ℕ) → a ≡ min m n → b ≡ min m n → a ≡ b
-least-once m n a b p q = p ∙ sym q

@@ -1,12 +1,13 @@
 -- Stores one after the other: what a buffer holds after two texts, and after one whose last byte is stored first.
-use Prim.Native.Nat.{ℕ, suc, _+_}
+use Prim.Native.Nat.{ℕ, suc, _+_, _≤_}
+use borrow.Author.Tests.{le-leb}
 use mathlib.Core.Path.{_≡_, refl, sym, ap, _∙_}
 use mathlib.Core.List.{List, [], _∷_, _++_}
 use native.Mathlib.Nat.{add-zero, add-assoc}
 use native.Mathlib.Omega.{arith}
 use lib.ListN.{length, length-append, set}
 use lib.Seq.{sets, set-comm}
-use Rattle.buffers.specs.Buffers.{Writes}
+use Rattle.buffers.specs.Buffers.{Writes, fitting}
 
 -- A text and then another are the two put together.
 pub sets-append : (l : List ℕ) (i : ℕ) (xs ys : List ℕ) → sets l i (xs ++ ys) ≡ sets (sets l i xs) (i + length xs) ys
@@ -54,3 +55,7 @@ module _ {before now : List ℕ} {at : ℕ} {whole : List ℕ} {here : ℕ} wher
   -- Nothing of it is left.
   pub completed : Completes before now at whole here [] → Writes before now at whole here
   completed owed = record { next = omega (arith, owed .next); bytes = owed .bytes }
+
+-- What has room is written.
+pub fitted : {before after text : List ℕ} {at wanted r : ℕ} → wanted ≤ length before → Writes before after at (fitting wanted before text) r → Writes before after at text r
+fitted {before} {wanted = wanted} room wrote = rw (le-leb wanted (length before) room) at wrote

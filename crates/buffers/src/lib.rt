@@ -2,7 +2,8 @@
 pub mod digits;
 
 ghost use mathlib.Core.Path.{_≡_};
-ghost use Prim.Native.Nat.{min};
+ghost use Prim.Native.Nat.{_+_, min};
+ghost use lib.Dec.{leb};
 ghost use Rattle.buffers.specs.Buffers.{Writes, leftIn};
 
 // Carries what is left of the bytes held in a block, after those taken, to its front, and answers how many these are.
@@ -20,8 +21,18 @@ pub fn carry(block: &mut [u8], taken: usize, held: usize) -> usize
     left
 }
 
+// Whether a buffer of so many bytes has so many from a place on.
+pub fn has_room(length: usize, at: usize, wanted: usize) -> bool
+    ensures { λ r. ⌜ r ≡ leb (at + wanted) length ⌝ }
+{
+    if length < wanted {
+        return false;
+    }
+    at <= length - wanted
+}
+
 // The lesser of two numbers.
-pub fn least(a: usize, b: usize) -> usize
+fn least(a: usize, b: usize) -> usize
     ensures { λ r. ⌜ r ≡ min a b ⌝ }
 {
     if a < b { a } else { b }

@@ -1,7 +1,7 @@
 // Events in, lines out: how the bytes of a stream become the lines of the station program.
 use bearers::MOST;
-use buffers::digits::cell;
-use buffers::digits::cells;
+use buffers::digits::size;
+use buffers::digits::spell;
 use records::Read;
 use records::Record;
 use records::SIZE;
@@ -13,10 +13,11 @@ use table::Outcome;
 use table::Settings;
 use table::Station;
 ghost use mathlib.Core.Path.{_≡_};
-ghost use Prim.Native.Nat.{_+_, _≤_};
+ghost use Prim.Native.Nat.{_+_, _*_, _≤_};
 ghost use lib.ListN.{length};
 ghost use lib.Seq.{sets};
 ghost use Rattle.buffers.specs.Buffers.{Writes};
+ghost use Rattle.buffers.specs.Digits.{cellRoom, cell as cellOf, spaced};
 ghost use Rattle.table.specs.Reached.{Reached};
 ghost use Rattle.lines.specs.Lines.{longest, lineOf, isWhole, answerTo, verdictsTo, newRun, workOf, progress};
 
@@ -34,6 +35,30 @@ pub struct Progress {
     pub run: Run,
     pub taken: usize,
     pub written: usize,
+}
+
+// Writes a number and the byte after it from a place on, and answers the next place.
+fn cell(n: u64, after: u8, out: &mut [u8], at: usize) -> usize
+    requires { ⌜ at + cellRoom ≤ length (now out) ⌝ }
+    ensures { λ r. ⌜ Writes (now (out .entry)) (now (out .exit)) at (cellOf n after) r ⌝ }
+{
+    let k = size(n);
+    spell(n, k, out, at);
+    let end = at + k;
+    out[end] = after;
+    end + 1
+}
+
+// Writes eight numbers with a space after each from a place on, and answers the next place.
+fn cells(numbers: [u64; 8], out: &mut [u8], at: usize) -> usize
+    requires { ⌜ (length numbers ≡ 8) × (at + 8 * cellRoom ≤ length (now out)) ⌝ }
+    ensures { λ r. ⌜ Writes (now (out .entry)) (now (out .exit)) at (spaced numbers) r ⌝ }
+{
+    let mut place = at;
+    for i in 0..8usize {
+        place = cell(numbers[i], 32, out, place);
+    }
+    place
 }
 
 // Writes a line from a place on, and answers the next place.

@@ -1,12 +1,13 @@
 // The words of the text form: one table.
 pub mod values;
 
+use buffers::has_room;
 ghost use mathlib.Core.Path.{_≡_};
 ghost use Prim.Native.Nat.{_+_, _≤_};
 ghost use mathlib.Core.Bool.{cond};
 ghost use lib.ListN.{length};
-ghost use Rattle.buffers.specs.Buffers.{Writes};
-ghost use Rattle.words.specs.Words.{isSame, rawWord, wordRoom, placeOf, trimmed, wordAt};
+ghost use Rattle.buffers.specs.Buffers.{Writes, fitting};
+ghost use Rattle.words.specs.Words.{isSame, wordRoom, placeOf, trimmed, wordAt};
 
 // The last word of a kind: word k is kind k's from 1 on.
 pub const LAST_KIND: usize = 17;
@@ -20,8 +21,11 @@ pub const ABSENT: usize = 35;
 // The word for bytes by themselves, which is the last.
 pub const RAW: usize = 36;
 
+// The longest word has room in so many bytes.
+const ROOM: usize = 16;
+
 // Every word, with spaces after it.
-const WORDS: [[u8; 16]; 37] = [
+const WORDS: [[u8; ROOM]; 37] = [
     *b"kind            ",
     *b"request         ",
     *b"acknowledge     ",
@@ -92,11 +96,16 @@ pub fn place_of(text: [u8; 16]) -> usize
     found
 }
 
-// Writes a word from a place on, and answers the next place.
+// Writes a word from a place on, if the buffer has room for the longest, and answers the next place.
 pub fn write_word(word: usize, out: &mut [u8], at: usize) -> usize
-    requires { ⌜ (word ≤ rawWord) × (at + wordRoom ≤ length (now out)) ⌝ }
-    ensures { λ r. ⌜ Writes (now (out .entry)) (now (out .exit)) at (wordAt word) r × (r ≤ at + wordRoom) ⌝ }
+    ensures { λ r. ⌜ Writes (now (out .entry)) (now (out .exit)) at (fitting (at + wordRoom) (now (out .entry)) (wordAt word)) r × (r ≤ at + wordRoom) ⌝ }
 {
+    if RAW < word {
+        return at;
+    }
+    if !has_room(out.len(), at, ROOM) {
+        return at;
+    }
     write_trimmed(WORDS[word], out, at)
 }
 

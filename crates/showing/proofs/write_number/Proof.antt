@@ -19,7 +19,7 @@ slice-write-out : tie.Need-slice-write-out
 slice-write-out c = search needs
 
 spell-requires : tie.Need-spell-requires
-spell-requires c κs = simp length-set (omega (arith, c .before .size .ensures, size-most 19 (c .before .before .before .args .n), c .before .before .before .pre))
+spell-requires c κs = search needs
 
 add-result : tie.Need-add-result
 add-result c = omega (arith, c .before .before .before .before .size .ensures, size-most 19 (c .before .before .before .before .before .before .args .n), c .before .before .before .before .before .before .pre, c .before .before .before .before .before .before .good)
@@ -31,7 +31,7 @@ returns : tie.Need-returns
 returns c =
     let start = c .before .before .before .before .before .before .args in
     let size = c .before .before .before .before .size .ensures in
-    (joined (stored (start .out .now) (start .at) (32 ∷ [])) (spelled _ (start .n) _ size (c .before .before .spell .ensures)), omega (arith, size, size-most 19 (start .n)))
+    (joined (stored (start .out .now) (start .at) (32 ∷ [])) (spelled _ (start .n) _ size (simp length-set (omega (arith, size, size-most 19 (start .n), c .before .before .before .before .before .before .pre))) (c .before .before .spell .ensures)), omega (arith, size, size-most 19 (start .n)))
 
 pub write-number-spec : {M : Type 1} → statement M
 write-number-spec =

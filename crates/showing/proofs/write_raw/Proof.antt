@@ -3,6 +3,7 @@ use mathlib.Core.Path.{_∙_}
 use native.Mathlib.Omega.{arith}
 use lib.ListN.{length-set}
 use Rattle.showing.proofs.Writing.{raw-written}
+use Rattle.buffers.proofs.Writing.{fitted}
 use borrow.Author.Needs.{needs}
 use Rattle.showing.proofs.write_raw.Statement.{statement}
 use Rattle.showing.proofs.write_raw.Tie as tie
@@ -32,7 +33,7 @@ returns : tie.Need-returns
 returns c =
     let start = c .before .before .before .before .before .before .before .before .before .before .args in
     let word = c .before .before .before .before .before .before .write-word .ensures in
-    (raw-written (start .bytes .now) (word .0) (c .before .before .write-bytes .ensures), omega (arith, word .1))
+    (raw-written (start .bytes .now) (fitted (omega (arith, c .before .before .before .before .before .before .before .before .before .before .pre)) (word .0)) (c .before .before .write-bytes .ensures), omega (arith, word .1))
 
 pub write-raw-spec : {M : Type 1} → statement M
 write-raw-spec =

@@ -1,6 +1,6 @@
 -- The word of its kind, and its fields after it.
 use native.Mathlib.Omega.{arith}
-use Rattle.buffers.proofs.Writing.{joined}
+use Rattle.buffers.proofs.Writing.{fitted, joined}
 use borrow.Author.Needs.{needs}
 use Rattle.showing.proofs.write_words.Statement.{statement}
 use Rattle.showing.proofs.write_words.Tie as tie
@@ -25,7 +25,7 @@ returns c =
     let first = c .before .before .before .before .before .before .write-word .ensures in
     let then = c .before .before .write-fields .ensures in
     let same = c .before .before .before .before .before .before .before .before .before .values-of .ensures in
-    (joined (first .0) (rw same at (then .0)), omega (arith, first .1, then .1))
+    (joined (fitted (omega (arith, c .before .before .before .before .before .before .before .before .before .before .before .pre)) (first .0)) (rw same at (then .0)), omega (arith, first .1, then .1))
 
 pub write-words-spec : {M : Type 1} → statement M
 write-words-spec =

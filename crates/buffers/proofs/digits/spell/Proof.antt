@@ -1,5 +1,6 @@
 -- The digits that are left, stored over what is there, give the whole: each turn stores the last of them.
 use Prim.Native.Nat.{ℕ, zero, suc, _+_, _-_, _/_, _%_, _≤_}
+use borrow.Author.Tests.{le-leb, leb-true, not-true, not-false}
 use mathlib.Core.Path.{_≡_, refl, sym, ap, _∙_}
 use mathlib.Core.List.{List}
 use native.Mathlib.Omega.{arith}
@@ -8,11 +9,12 @@ use lib.Seq.{sets}
 use Rattle.buffers.specs.Digits.{digits}
 use Rattle.buffers.proofs.Lengths.{length-digits}
 use Rattle.buffers.proofs.Writing.{last-first}
+use borrow.Author.Needs.{needs}
 use Rattle.buffers.proofs.digits.spell.Statement.{statement}
 use Rattle.buffers.proofs.digits.spell.Tie as tie
 
 abbrev Inv-loop : tie.InvT-loop
-Inv-loop n k out₀ at i₀ rest₀ out i rest = (i ≤ k) × (length out ≡ length out₀) × (sets out at (digits i rest) ≡ sets out₀ at (digits k n))
+Inv-loop n k out₀ at i₀ rest₀ out i rest = (i ≤ k) × (length out ≡ length out₀) × (at + k ≤ length out₀) × (sets out at (digits i rest) ≡ sets out₀ at (digits k n))
 
 abbrev μ-loop : tie.MeasureT-loop
 μ-loop n k out₀ at i₀ rest₀ out i rest = i
@@ -29,8 +31,17 @@ one-less out at (suc i) rest h =
     (last-first out at (digits i (rest / 10)) (48 + rest % 10)
     ∙ ap (λ (k : ℕ). sets (set out (at + k) (48 + rest % 10)) at (digits i (rest / 10))) there))
 
+has-room-requires : tie.Need-has-room-requires Inv-loop μ-loop
+has-room-requires c κs = search needs
+
+returns : tie.Need-returns Inv-loop μ-loop
+returns c =
+    rw (sym (c .before .has-room .ensures) ∙ not-true (c .before .has-room .result) (c .if1 .taken))
+
 loop-holds : tie.Need-loop-holds Inv-loop μ-loop
-loop-holds c = (omega arith, refl, refl)
+loop-holds c =
+    let a = c .before .before .before .args in
+    (omega arith, refl, leb-true (a .at + a .k) (length (a .out .now)) (sym (c .before .has-room .ensures) ∙ not-false (c .before .has-room .result) (c .if1 .left)), refl)
 
 sub-i : tie.Need-sub-i Inv-loop μ-loop
 sub-i c = omega arith
@@ -55,7 +66,8 @@ loop-again c =
     let now = c .before .loop .inv in (
       omega arith,
       length-set (c .before .loop .out) _ _ ∙ now .1,
-      one-less (c .before .loop .out) (c .before .before .args .at) (c .before .loop .i) (c .before .loop .rest) (c .loop-test .taken) ∙ now .2,
+      now .2,
+      one-less (c .before .loop .out) (c .before .before .before .before .before .args .at) (c .before .loop .i) (c .before .loop .rest) (c .loop-test .taken) ∙ now .3,
     )
 
 same-length : tie.Need-same-length Inv-loop μ-loop
@@ -67,8 +79,11 @@ unfolding digits
 done out at zero rest h = refl
 done out at (suc i) rest h = absurd (omega arith)
 
-returns : tie.Need-returns Inv-loop μ-loop
-returns c = done (c .before .loop .out) (c .before .before .args .at) (c .before .loop .i) (c .before .loop .rest) (c .loop-test .left) ∙ c .before .loop .inv .2
+returns-2 : tie.Need-returns-2 Inv-loop μ-loop
+returns-2 c =
+    let a = c .before .before .before .before .before .args in
+    let l = c .before .loop in
+    rw (le-leb (a .at + a .k) (length (a .out .now)) (l .inv .2)) (done (l .out) (a .at) (l .i) (l .rest) (c .loop-test .left) ∙ l .inv .3)
 
 pub spell-spec : {M : Type 1} → statement M
 spell-spec =
@@ -76,6 +91,8 @@ spell-spec =
     (tie.spec
     Inv-loop
     μ-loop
+    has-room-requires
+    returns
     loop-holds
     sub-i
     cast-out
@@ -85,4 +102,4 @@ spell-spec =
     loop-less
     loop-again
     same-length
-    returns)
+    returns-2)

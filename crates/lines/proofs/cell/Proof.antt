@@ -2,11 +2,11 @@
 use Prim.Native.Nat.{_≤_}
 use mathlib.Core.List.{[], _∷_}
 use native.Mathlib.Omega.{arith}
 use Rattle.buffers.proofs.Lengths.{size-most, spelled}
 use Rattle.buffers.proofs.Writing.{stored, joined}
 use borrow.Author.Needs.{needs}
-use Rattle.buffers.proofs.digits.cell.Statement.{statement}
-use Rattle.buffers.proofs.digits.cell.Tie as tie
+use Rattle.lines.proofs.cell.Statement.{statement}
+use Rattle.lines.proofs.cell.Tie as tie
 
 size-requires : tie.Need-size-requires
 size-requires c κs = search needs
@@ -16,7 +16,7 @@ few : (c : tie.After-size) → c .size .result ≤ 20
 few c = omega (arith, size-most 19 (c .before .before .args .n))
 
 spell-requires : tie.Need-spell-requires
-spell-requires c κs = omega (arith, few (c .before))
+spell-requires c κs = search needs
 
 add-end : tie.Need-add-end
 add-end c = omega (arith, few (c .before .before .before .before))
@@ -34,7 +34,7 @@ returns : tie.Need-returns
 returns c =
     let start = c .before .before .before .before .before .before .args in
     let size = c .before .before .before .before .size in
-    joined (spelled (start .at) (start .n) _ (size .ensures) (c .before .before .spell .ensures)) (stored _ _ (start .after ∷ []))
+    joined (spelled (start .at) (start .n) _ (size .ensures) (omega (arith, few (c .before .before .before .before), c .before .before .before .before .before .before .pre)) (c .before .before .spell .ensures)) (stored _ _ (start .after ∷ []))
 
 pub cell-spec : {M : Type 1} → statement M
 cell-spec =

@@ -6,11 +6,11 @@ use native.Mathlib.Numerals.{add-one}
 use native.Mathlib.Omega.{arith}
 use lib.ListN.{length, getD, drop, drop-of-length-le}
 use lib.Seq.{drop-cons}
 use Rattle.buffers.specs.Digits.{cellRoom, cell, spaced}
 use Rattle.buffers.proofs.Lengths.{cell-most}
 use Rattle.buffers.proofs.Writing.{stored, Completes, onward, completed}
-use Rattle.buffers.proofs.digits.cells.Statement.{statement}
-use Rattle.buffers.proofs.digits.cells.Tie as tie
+use Rattle.lines.proofs.cells.Statement.{statement}
+use Rattle.lines.proofs.cells.Tie as tie
 
 -- so far: each number took at most its room
 abbrev Inv-loop : tie.InvT-loop
