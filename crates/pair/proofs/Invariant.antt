@@ -2,13 +2,13 @@
 -- (the prepared records of the source, then the messages to it, then the held records of the target), both are of the same handover.
 use Prim.Native.Nat.{ℕ, _+_, _≤_, _<_}
 use mathlib.Core.Path.{_≡_}
-use mathlib.Core.Bool.{Bool, true, _||_}
+use mathlib.Core.Bool.{true}
 use mathlib.Core.List.{[], _∷_}
 use mathlib.Core.Logic.{_⊎_, _↔_}
-use lib.Dec.{eqb}
 use Rattle.handover.specs.Events.{message}
-use Rattle.promises.specs.Views.{Outgoing, Prepared, Incoming, Held, someOut, out, held, isOtherEnding}
+use Rattle.promises.specs.Views.{Outgoing, Prepared, Incoming, Held, someOut, out, held}
 use Rattle.pair.specs.World.{Side, Answered, Silent, Refused, Fixed, untold, Envelope, recordOf, All, limit}
+use Rattle.pair.specs.Theorem.{isEnding}
 use Rattle.pair.proofs.Lists.{Pairs}
 use Rattle.pair.proofs.Ledger.{UsedOf, IssuedOf, LedgerOf}
 use Rattle.pair.proofs.Directions.{Direction}
@@ -36,10 +36,6 @@ recordFor d h = recordOf (d .numbers) (outgoing d) h
 
 abbrev pub reserved : Direction → ℕ → Incoming
 reserved d n = held (d .target) (d .back) n
-
--- failed, moved, cancelled, overtime, returned or reset
-abbrev pub isEnding : ℕ → Bool
-isEnding z = eqb z 1 || eqb z 3 || isOtherEnding z
 
 -- ---- a message under way
 

@@ -14,13 +14,13 @@ use Rattle.promises.proofs.Interface.{laws, step-laws}
 use Rattle.table.specs.declared.Answer.{Answer}
 use Rattle.table.specs.declared.Station.{Station}
 use Rattle.promises.specs.Views.{Outgoing, NotOut, Preparing, Prepared, Incoming, NotHeld, Held, someOut, someHeld, out, held, due, sent, to, isOtherEnding, Source, asks, readies, keeps, StepLaws}
-use Rattle.pair.specs.Theorem.{EndsOnce, AsFixed, AtRest, Past, starts, Still, here, onward, Nine, Demand}
-use Rattle.pair.specs.World.{Side, other, Envelope, World, recordOf, isMessage, act, Comes, All, nothing, Acts, Step, acts, loses}
+use Rattle.pair.specs.Theorem.{isEnding, EndsOnce, AsFixed, AtRest, Past, starts, Still, here, onward, Nine, Demand}
+use Rattle.pair.specs.World.{Side, other, Refused, Envelope, World, recordOf, isMessage, act, Comes, All, nothing, Acts, Step, acts, loses}
 use Rattle.pair.proofs.Posting.{posted-to, all-posted}
 use Rattle.pair.proofs.Taking.{taken-of, first-of, left}
 use Rattle.pair.proofs.Loss.{all-fewer}
 use Rattle.pair.proofs.Directions.{Direction, direction}
-use Rattle.pair.proofs.Invariant.{kindOf, outgoing, isEnding, Invariant}
+use Rattle.pair.proofs.Invariant.{kindOf, outgoing, Invariant}
 use Rattle.pair.proofs.Reaching.{on-sides, remain, Good, step-of, acted, stepping, reached}
 use Rattle.pair.proofs.Targets.{granting}
 
@@ -55,9 +55,12 @@ module _ (s : Side) (d : Direction) (i : Invariant s d) (none : (j : ℕ) → ou
 
       once : (z : ℕ) × (d .handovers h .endings ≡ z ∷ []) × (isEnding z ≡ true) → EndsOnce (d .handovers h)
       once (z, one, is) =
+          let failed : z ≡ 1 → d .handovers h .answer ≡ Refused = λ first. i .failed h (rw first at one) in
           record {
             end = z;
             one = one;
+            is-ending = is;
+            failed = failed;
             moved = (
               λ three. let came = i .moved h .0 (rw three at one) in (i .came h came, came),
               λ both. let moved = i .moved h .1 (both .1) in cc,
@@ -65,7 +68,7 @@ module _ (s : Side) (d : Direction) (i : Invariant s d) (none : (j : ℕ) → ou
             else = λ arrived not-came.
                 other-ending z is
                 (λ first.
-                let failed = i .failed h (rw first at one) in
+                let refused = failed first in
                 let fixed = i .arrived h arrived .2 in
                 clash (cc))
                 (λ third. true≢false (sym (i .moved h .0 (rw third at one)) ∙ not-came));

@@ -14,8 +14,9 @@ use Rattle.records.specs.declared.Record.{Record}
 use Rattle.table.specs.declared.Answer.{Answer}
 use Rattle.promises.specs.Views.{NotOut, Preparing, Prepared, someOut, sent, ending, to, issued, Ends, failed, moved, otherwise, Source, asks, readies, keeps}
 use Rattle.pair.specs.World.{Side, nextIssue, Envelope, Fixed, Refused, isPrepared, recordOf, took}
+use Rattle.pair.specs.Theorem.{isEnding}
 use Rattle.pair.proofs.Directions.{Direction, SourceStep}
-use Rattle.pair.proofs.Invariant.{kindOf, oldOf, newOf, outgoing, recordFor, isEnding, Released, Ended, Moved, Came, Failed, Invariant}
+use Rattle.pair.proofs.Invariant.{kindOf, oldOf, newOf, outgoing, recordFor, Released, Ended, Moved, Came, Failed, Invariant}
 use Rattle.pair.proofs.Ledger.{number-kept}
 use Rattle.pair.proofs.Taking.{Taken, taken-of, took-of, first-of, carries-fields, carries-release}
 use Rattle.pair.proofs.SourceFacts.{record-there, record-is, after, in-table, start-latest, start-number, comesNow, prepared-now, goes, stays, gone, ended-stays, asked-told}

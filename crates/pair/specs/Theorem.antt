@@ -1,21 +1,29 @@
 -- The theorem of two stations: whatever they do and whatever is lost, both think the same of each handover.
 use Prim.Native.Nat.{ℕ, _≤_}
 use mathlib.Core.Path.{_≡_}
-use mathlib.Core.Bool.{Bool, true, false}
+use mathlib.Core.Bool.{Bool, true, false, _||_}
 use mathlib.Core.List.{List, [], _∷_}
 use mathlib.Core.Logic.{_↔_}
 use mathlib.Core.Option.{some}
+use lib.Dec.{eqb}
 use Rattle.records.specs.declared.Record.{Record}
 use Rattle.table.specs.declared.Answer.{Answer}
 use Rattle.table.specs.Step.{stepOf}
 use Rattle.promises.specs.Views.{NotOut, Prepared, NotHeld, out, held, due, to, isOtherEnding}
-use Rattle.pair.specs.World.{Side, Handover, Fixed, World, Acts, Step, acts, loses, Run}
+use Rattle.pair.specs.World.{Side, Handover, Refused, Fixed, World, Acts, Step, acts, loses, Run}
 
--- A handover has one ending "at the source": moved if and only if "the target saw the UE arrive" and its release "came while the source
--- stood prepared"; if the UE arrived and its release did not so come, then cancelled, overtime, returned or reset.
+-- an ending at the source: failed, moved, cancelled, overtime, returned or reset
+abbrev pub isEnding : ℕ → Bool
+isEnding z = eqb z 1 || eqb z 3 || isOtherEnding z
+
+-- A handover has one ending "at the source": failed only if the target refused that very request; moved if and only if "the target saw
+-- the UE arrive" and its release "came while the source stood prepared"; if the UE arrived and its release did not so come, then
+-- cancelled, overtime, returned or reset.
 pub record EndsOnce (k : Handover) : Type 0 where
   pub end : ℕ
   pub one : k .endings ≡ end ∷ []
+  pub is-ending : isEnding end ≡ true
+  pub failed : end ≡ 1 → k .answer ≡ Refused
   pub moved : (end ≡ 3) ↔ ((k .arrived ≡ true) × (k .came ≡ true))
   pub else : k .arrived ≡ true → k .came ≡ false → isOtherEnding end ≡ true
 
