@@ -39,11 +39,12 @@ reserved d n = held (d .target) (d .back) n
 
 -- ---- a message under way
 
--- a request: its handover is the last to have its Old ID, and not answered yet
+-- a request: its handover was asked for, is the last to have its Old ID, and not answered yet
 pub record Requested (s : Side) (d : Direction) (m : Envelope) : Type 0 where
   pub named : 1 ≤ m .tag
   pub latest : d .numbers .issueOf (oldOf m) ≡ m .tag
   pub stamped : m .stamp s ≡ m .tag
+  pub asked : d .handovers (m .tag) .asked ≡ true
   pub unanswered : d .handovers (m .tag) .answer ≡ Silent
 
 -- an answer: its handover is the last to have its Old ID, and it is what the target answered
@@ -99,6 +100,7 @@ module _ (s : Side) (d : Direction) where
   HeldFixed =
       (n old set : ℕ) → reserved d n ≡ Held old set
       → (d .numbers .numberOf (d .fixedFor n) ≡ old) × (d .handovers (d .fixedFor n) .answer ≡ Fixed n set)
+      × (d .handovers (d .fixedFor n) .asked ≡ true)
 
   abbrev pub PreparedFixed : Type 0
   PreparedFixed = (i n set : ℕ) → outgoing d i ≡ Prepared n set → d .handovers (d .numbers .issueOf i) .answer ≡ Fixed n set

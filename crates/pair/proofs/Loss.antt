@@ -23,7 +23,7 @@ module _ (s : Side) (d : Direction) (requests answers : List Envelope) (fewer-re
   after = withQueues requests answers d
 
   requested : (m : Envelope) → Requested s d m → Requested s after m
-  requested m was = record { named = was .named; latest = was .latest; stamped = was .stamped; unanswered = was .unanswered }
+  requested m was = record { named = was .named; latest = was .latest; stamped = was .stamped; asked = was .asked; unanswered = was .unanswered }
 
   replied : (m : Envelope) (answer : Answered) → Replied s d m answer → Replied s after m answer
   replied m answer was = record { named = was .named; latest = was .latest; stamped = was .stamped; answered = was .answered }

@@ -11,10 +11,11 @@ use lib.Dec.{eqb}
 use Rattle.laws.proofs.Tests.{by-cases, clash, refuted}
 use Rattle.records.specs.declared.Record.{Record}
 use Rattle.promises.proofs.Interface.{laws, step-laws}
+use Rattle.promises.proofs.Shown.{shown}
 use Rattle.table.specs.declared.Answer.{Answer}
 use Rattle.table.specs.declared.Station.{Station}
 use Rattle.promises.specs.Views.{Outgoing, NotOut, Preparing, Prepared, Incoming, NotHeld, Held, someOut, someHeld, out, held, due, sent, to, isOtherEnding, Source, asks, readies, keeps, StepLaws}
-use Rattle.pair.specs.Theorem.{isEnding, EndsOnce, AsFixed, AtRest, Past, starts, Still, here, onward, Nine, Demand}
+use Rattle.pair.specs.Theorem.{isEnding, EndsOnce, AsFixed, HeldAsFixed, OutgoingAsked, AtRest, Past, starts, Still, here, onward, Nine, Demand}
 use Rattle.pair.specs.World.{Side, other, Refused, Envelope, World, recordOf, isMessage, act, Comes, All, nothing, Acts, Step, acts, loses}
 use Rattle.pair.proofs.Posting.{posted-to, all-posted}
 use Rattle.pair.proofs.Taking.{taken-of, first-of, left}
@@ -75,13 +76,25 @@ module _ (s : Side) (d : Direction) (i : Invariant s d) (none : (j : ℕ) → ou
           }
 
 module _ (peer : Side → ℕ) where
-  -- "A prepared handover carries the number and set the target fixed for that very request": it is that of the issue that gave its own ID.
-  as-fixed : {w : World} → Good peer w → (s : Side) → AsFixed peer w s
-  as-fixed {w} good s i number set ready =
+  -- An outgoing record is that of the issue that gave its own ID.
+  outgoing-asked : {w : World} → Good peer w → (s : Side) → OutgoingAsked peer w s
+  outgoing-asked {w} good s i there =
       let inv = good .invariant s in
-      let there : someOut (out (w .station s) (peer s) i) ≡ true = rw ready in
       let issued = inv .issued i (inv .used i (laws (good .reached s) .view (peer s) i (inl there))) in
-      (w .numbers s .issueOf i, issued .1, refl, inv .live i there .0, inv .prepared i number set ready)
+      let live = inv .live i there in
+      (w .numbers s .issueOf i, issued .1, refl, live .0, live .1)
+
+  -- "A prepared handover carries the number and set the target fixed for that very request."
+  as-fixed : {w : World} → Good peer w → (s : Side) → AsFixed peer w s
+  as-fixed good s i number set ready =
+      let of = outgoing-asked good s i (rw ready) in
+      (of .0, of .1, of .2, of .3, rw (of .2) at (good .invariant s .prepared i number set ready))
+
+  -- A held record is that of the handover for which its New ID was fixed.
+  held-as-fixed : {w : World} → Good peer w → (s : Side) → HeldAsFixed peer w s
+  held-as-fixed {w} good s old number set there =
+      let for = good .invariant s .held number old set there in
+      (w .fixedFor s number, for .0, refl, for .2, for .1)
 
   -- Where no record of the other station has a deadline there is none: every one has.
   at-rest : {w : World} → Good peer w → (s : Side) → ((i d : ℕ) → due (w .station s) (peer s) i ≡ some d → ⊥) → AtRest peer w s
@@ -89,6 +102,7 @@ module _ (peer : Side → ℕ) where
       record {
         no-reservation = λ i. no-held (held (w .station s) (peer s) i) (λ there. none i (inr there));
         no-outgoing = no-outgoing;
+        no-place = λ j h of low high. let timer = shown (good .reached s) j h .timed low high in never _ _ (rw of at timer);
         ended = ends-once s (direction peer w s) (good .invariant s) no-outgoing;
       }
     where
@@ -190,6 +204,8 @@ module _ (peer : Side → ℕ) where
   demand =
       record {
         fixed = λ w run. as-fixed (reached peer run);
+        held-fixed = λ w run. held-as-fixed (reached peer run);
+        outgoing-asked = λ w run. outgoing-asked (reached peer run);
         settles = λ w w' run x s.
             settles-at (reached peer run) (λ r. rw (x .empty r) nothing) s (x .time s) (x .past s) (x .nine s);
         settled = λ w run x s.

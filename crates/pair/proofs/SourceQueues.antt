@@ -19,7 +19,7 @@ use Rattle.pair.proofs.Invariant.{kindOf, oldOf, newOf, setOf, recordFo
 use Rattle.pair.proofs.Ledger.{number-kept, count-grows}
 use Rattle.pair.proofs.Taking.{left, left-pairs}
 use Rattle.pair.proofs.Posting.{posted-to, all-posted, pairs-posted}
-use Rattle.pair.proofs.SourceFacts.{after, start-counts, start-latest, comesNow, prepared-now, under-way, no-record, answer-told}
+use Rattle.pair.proofs.SourceFacts.{after, start-counts, start-latest, asked-stays, asked-now, comesNow, prepared-now, under-way, no-record, answer-told}
 
 module _ {s : Side} {d : Direction} {e : Record} {a : Answer} {taken : Option Envelope} {rest : List Envelope} {stamp : Side → ℕ} {fixed : ℕ → ℕ}
     (x : SourceStep s d e a taken rest stamp fixed) (inv : Invariant s d) where
@@ -51,7 +51,13 @@ module _ {s : Side} {d : Direction} {e : Record} {a : Answer} {taken : Option En
   request-kept : (m : Envelope) → (kindOf m ≡ 1 → Requested s d m) → Recent s (after x .numbers) m → kindOf m ≡ 1 → Requested s (after x) m
   request-kept m was recent kind =
       let k = was kind in
-      record { named = k .named; latest = under-way x inv m (k .named) (k .latest) (omega arith) recent; stamped = k .stamped; unanswered = k .unanswered }
+      record {
+        named = k .named;
+        latest = under-way x inv m (k .named) (k .latest) (omega arith) recent;
+        stamped = k .stamped;
+        asked = asked-stays x (m .tag) (k .asked);
+        unanswered = k .unanswered;
+      }
 
   request-new : isMessage (d .towards) (sent a) ≡ true → sent a .kind ≡ 1 → Requested s (after x) posting
   request-new t kind =
@@ -61,6 +67,7 @@ module _ {s : Side} {d : Direction} {e : Record} {a : Answer} {taken : Option En
         named = omega arith;
         latest = start-latest x asks ∙ sym first;
         stamped = x .stamped ∙ start-counts x asks ∙ sym first;
+        asked = rw first (asked-now x asks);
         unanswered = rw first (ap (λ k. k .answer) (inv .new (nextIssue (d .numbers)) (omega arith)));
       }
 
@@ -110,7 +117,7 @@ module _ {s : Side} {d : Direction} {e : Record} {a : Answer} {taken : Option En
   pub held-kept : HeldFixed s (after x)
   held-kept n old set is =
       let was = inv .held n old set is in
-      (number-kept (d .numbers) (issued a) (d .fixedFor n) (answer-told x inv (d .fixedFor n) n set (was .1)) ∙ was .0, was .1)
+      (number-kept (d .numbers) (issued a) (d .fixedFor n) (answer-told x inv (d .fixedFor n) n set (was .1)) ∙ was .0, was .1, asked-stays x (d .fixedFor n) (was .2))
 
   pub order-kept : Order s (after x)
   order-kept = left-pairs (x .comes) (inv .order)

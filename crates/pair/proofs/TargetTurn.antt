@@ -103,7 +103,7 @@ module _ {s : Side} {d : Direction} {e : Record} {a : Answer} {taken : Option En
     where
       waiting : (m : Envelope) → Requested s d m → took 1 (m .tag) taken ≡ false → Requested s after m
       waiting m r other =
-          record { named = r .named; latest = r .latest; stamped = r .stamped; unanswered = same-answer x i (m .tag) other ∙ r .unanswered }
+          record { named = r .named; latest = r .latest; stamped = r .stamped; asked = r .asked; unanswered = same-answer x i (m .tag) other ∙ r .unanswered }
 
   once-kept : Once s after
   once-kept = left-pairs (x .comes) (i .once)
@@ -230,14 +230,19 @@ module _ {s : Side} {d : Direction} {e : Record} {a : Answer} {taken : Option En
     where
       of : HeldAfter d a (tagOf taken) (after .fixedFor n) n old set
           → (d .numbers .numberOf (after .fixedFor n) ≡ old) × (after .handovers (after .fixedFor n) .answer ≡ Fixed n set)
+          × (after .handovers (after .fixedFor n) .asked ≡ true)
       of (kept was same) =
-          let for = i .held n old set was in
-          (ap (d .numbers .numberOf) same ∙ for .0, ap (λ h. after .handovers h .answer) same ∙ fixed-stays (d .fixedFor n) n set (for .1))
+          let for = i .held n old set was in (
+            ap (d .numbers .numberOf) same ∙ for .0,
+            ap (λ h. after .handovers h .answer) same ∙ fixed-stays (d .fixedFor n) n set (for .1),
+            ap (λ h. after .handovers h .asked) same ∙ for .2,
+          )
       of (made t number id admitted same) =
           let g = granting (x .step .target (d .back)) t in
           let r = answered (g .kind) (g .neighbour) in (
             ap (d .numbers .numberOf) same ∙ r .numbered ∙ g .old ∙ sym id,
             ap (λ h. after .handovers h .answer) same ∙ granted-answer t (g .kind) (g .neighbour) ∙ (cc),
+            ap (λ h. after .handovers h .asked) same ∙ r .asked,
           )
 
   prepared-kept : PreparedFixed s after

@@ -57,6 +57,7 @@ pub record RequestOf (d : Direction) (old h : ℕ) : Type 0 where
   pub counted : h ≤ d .numbers .issuedCount
   pub numbered : d .numbers .numberOf h ≡ old
   pub recent : d .numbers .issuedCount < h + limit
+  pub asked : d .handovers h .asked ≡ true
   pub unanswered : d .handovers h .answer ≡ Silent
 
 -- A record is held that was held before, for the same handover, or the one that is granted, for the handover whose request was taken.
@@ -83,6 +84,7 @@ module _ {s : Side} {d : Direction} {e : Record} {a : Answer} {taken : Option En
         counted = rw latest at (issued .0);
         numbered = rw latest at (issued .1);
         recent = rw (requested .stamped, tag) at recent;
+        asked = rw tag at (requested .asked);
         unanswered = rw tag at (requested .unanswered);
       }
 

@@ -1,16 +1,19 @@
 -- The theorem of two stations: whatever they do and whatever is lost, both think the same of each handover.
-use Prim.Native.Nat.{ℕ, _≤_}
+use Prim.Native.Nat.{ℕ, _≤_, _<_}
 use mathlib.Core.Path.{_≡_}
 use mathlib.Core.Bool.{Bool, true, false, _||_}
 use mathlib.Core.List.{List, [], _∷_}
 use mathlib.Core.Logic.{_↔_}
 use mathlib.Core.Option.{some}
 use lib.Dec.{eqb}
+use lib.ListN.{getD}
 use Rattle.records.specs.declared.Record.{Record}
+use Rattle.handover.specs.declared.Entry.{Entry}
+use Rattle.handover.specs.Numbers.{blank}
 use Rattle.table.specs.declared.Answer.{Answer}
 use Rattle.table.specs.Step.{stepOf}
-use Rattle.promises.specs.Views.{NotOut, Prepared, NotHeld, out, held, due, to, isOtherEnding}
-use Rattle.pair.specs.World.{Side, Handover, Refused, Fixed, World, Acts, Step, acts, loses, Run}
+use Rattle.promises.specs.Views.{NotOut, Prepared, NotHeld, Held, someOut, out, held, due, to, isOtherEnding}
+use Rattle.pair.specs.World.{Side, other, Handover, Refused, Fixed, World, Acts, Step, acts, loses, Run}
 
 -- an ending at the source: failed, moved, cancelled, overtime, returned or reset
 abbrev pub isEnding : ℕ → Bool
@@ -27,6 +30,10 @@ pub record EndsOnce (k : Handover) : Type 0 where
   pub moved : (end ≡ 3) ↔ ((k .arrived ≡ true) × (k .came ≡ true))
   pub else : k .arrived ≡ true → k .came ≡ false → isOtherEnding end ≡ true
 
+-- a place of a station's table
+abbrev pub place : World → Side → ℕ → Entry
+place w s j = getD (w .station s .entries) j blank
+
 -- "Nothing is under way."
 abbrev pub Empty : World → Type 0
 Empty w = (s : Side) → w .queue s ≡ []
@@ -39,10 +46,25 @@ module _ (peer : Side → ℕ) where
       → (h : ℕ) × (w .numbers s .numberOf h ≡ i) × (w .numbers s .issueOf i ≡ h) × (w .handovers s h .asked ≡ true)
       × (w .handovers s h .answer ≡ Fixed number set)
 
-  -- Neither station holds a reservation for the other or an outgoing record towards it, and each handover has ended once.
+  -- So does the record that the target holds for it.
+  abbrev pub HeldAsFixed : World → Side → Type 0
+  HeldAsFixed w s =
+      (old number set : ℕ) → held (w .station (other s)) (peer (other s)) number ≡ Held old set
+      → (h : ℕ) × (w .numbers s .numberOf h ≡ old) × (w .fixedFor s number ≡ h) × (w .handovers s h .asked ≡ true)
+      × (w .handovers s h .answer ≡ Fixed number set)
+
+  -- Each outgoing record towards the other station, prepared or not, is that of a handover which was asked for and has not ended.
+  abbrev pub OutgoingAsked : World → Side → Type 0
+  OutgoingAsked w s =
+      (i : ℕ) → someOut (out (w .station s) (peer s) i) ≡ true
+      → (h : ℕ) × (w .numbers s .numberOf h ≡ i) × (w .numbers s .issueOf i ≡ h) × (w .handovers s h .asked ≡ true) × (w .handovers s h .endings ≡ [])
+
+  -- Neither station holds a reservation for the other or an outgoing record towards it: none is seen, and no place of its table that has
+  -- the other's number is preparing, prepared or held. And each handover has ended once.
   pub record AtRest (w : World) (s : Side) : Type 0 where
     pub no-reservation : (i : ℕ) → held (w .station s) (peer s) i ≡ NotHeld
     pub no-outgoing : (i : ℕ) → out (w .station s) (peer s) i ≡ NotOut
+    pub no-place : (j : ℕ) → j < 64 → place w s j .neighbour ≡ peer s → 1 ≤ place w s j .state → place w s j .state ≤ 3 → ⊥
     pub ended : (h : ℕ) → w .handovers s h .asked ≡ true → EndsOnce (w .handovers s h)
 
   -- A time that is "past every deadline" of a station's records of the other.
@@ -91,5 +113,7 @@ module _ (peer : Side → ℕ) where
   -- The theorem.
   pub record Demand : Type 0 where
     pub fixed : (w : World) → Run peer w → (s : Side) → AsFixed w s
+    pub held-fixed : (w : World) → Run peer w → (s : Side) → HeldAsFixed w s
+    pub outgoing-asked : (w : World) → Run peer w → (s : Side) → OutgoingAsked w s
     pub settles : (w w' : World) → Run peer w → Settles w w' → (s : Side) → AtRest w' s
     pub settled : (w : World) → Run peer w → Settled w → (s : Side) → AtRest w s

@@ -12,6 +12,7 @@ pub mod Orderless
 pub mod Replies
 pub mod Rows
 pub mod Sent
+pub mod Shown
 pub mod Sides
 pub mod Strangers
 pub mod Ticks

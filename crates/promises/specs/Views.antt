@@ -97,6 +97,13 @@ held s p i = heldOf p (named i s)
 unfoldable pub due : Station → ℕ → ℕ → Option ℕ
 due s p i = dueOf p (named i s)
 
+-- They hide nothing: a record of the table that is outgoing or held is seen under its neighbour and own ID, as what it is, with its deadline.
+pub record Shown (s : Station) (r : Entry) : Type 0 where
+  pub preparing : r .state ≡ 1 → out s (r .neighbour) (r .old .0) ≡ Preparing
+  pub prepared : r .state ≡ 2 → out s (r .neighbour) (r .old .0) ≡ Prepared (r .new .0) (r .admitted)
+  pub reserved : r .state ≡ 3 → held s (r .neighbour) (r .new .0) ≡ Held (r .old .0) (r .admitted)
+  pub timed : 1 ≤ r .state → r .state ≤ 3 → due s (r .neighbour) (own r) ≡ some (r .deadline)
+
 -- ---- one step: the station before it, the event and the answer
 
 -- the message that it sends, and its ending
