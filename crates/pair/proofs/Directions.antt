@@ -1,6 +1,6 @@
 -- One direction of the world, from a source to a target, and what a step of either does to it: each step of the world is a turn of the
 -- source in one direction and a turn of the target in the other.
-use Prim.Native.Nat.{ℕ}
+use Prim.Native.Nat.{ℕ, _≤_}
 use mathlib.Core.Path.{_≡_}
 use mathlib.Core.List.{List, _++_}
 use mathlib.Core.Option.{Option}
@@ -52,6 +52,10 @@ withQueues requests answers d =
       handovers = d .handovers;
     }
 
+-- The limit is needed for requests and their answers (kinds 1 to 3) alone.
+abbrev pub Timely : Side → Numbers → Envelope → Type 0
+Timely s n m = 1 ≤ m .message .kind → m .message .kind ≤ 3 → Recent s n m
+
 module _ (s : Side) (d : Direction) (e : Record) (a : Answer) (taken : Option Envelope) (rest : List Envelope) (stamp : Side → ℕ) where
   -- The source takes an event, perhaps the oldest message to it. `fixed` is its own side's, as a target, and free here.
   abbrev pub sourceAfter : (ℕ → ℕ) → Direction
@@ -74,8 +78,8 @@ module _ (s : Side) (d : Direction) (e : Record) (a : Answer) (taken : Option En
     pub step : StepLaws (d .source) e a
     pub comes : Comes (d .towards) e (d .answers) taken rest
     pub stamped : stamp s ≡ issuing (issued a) (d .numbers) .issuedCount
-    pub requests-recent : All (Recent s (issuing (issued a) (d .numbers))) (sourceAfter fixed .requests)
-    pub answers-recent : All (Recent s (issuing (issued a) (d .numbers))) rest
+    pub requests-timely : All (Timely s (issuing (issued a) (d .numbers))) (sourceAfter fixed .requests)
+    pub answers-timely : All (Timely s (issuing (issued a) (d .numbers))) rest
 
   -- The target takes an event, perhaps the oldest message to it. `issue` is its own next, as a source, and free here.
   abbrev pub targetAfter : ℕ → Direction
@@ -97,4 +101,4 @@ module _ (s : Side) (d : Direction) (e : Record) (a : Answer) (taken : Option En
     pub step : StepLaws (d .target) e a
     pub comes : Comes (d .back) e (d .requests) taken rest
     pub stamped : stamp s ≡ d .numbers .issuedCount
-    pub requests-recent : All (Recent s (d .numbers)) (d .requests)
+    pub requests-timely : All (Timely s (d .numbers)) (d .requests)

@@ -10,20 +10,21 @@ use native.Mathlib.Omega.{arith}
 use lib.Dec.{eqb}
 use Rattle.laws.proofs.Tests.{by-cases, clash, refuted}
 use Rattle.records.specs.declared.Record.{Record}
-use Rattle.promises.proofs.Interface.{laws, step-laws}
+use Rattle.promises.proofs.Interface.{laws}
 use Rattle.promises.proofs.Shown.{shown}
 use Rattle.table.specs.declared.Answer.{Answer}
 use Rattle.table.specs.declared.Station.{Station}
 use Rattle.promises.specs.Views.{Outgoing, NotOut, Preparing, Prepared, Incoming, NotHeld, Held, someOut, someHeld, out, held, due, sent, to, isOtherEnding, Source, asks, readies, keeps, StepLaws}
 use Rattle.pair.specs.Theorem.{isEnding, EndsOnce, AsFixed, HeldAsFixed, OutgoingAsked, AtRest, Past, starts, Still, here, onward, Nine, Demand}
 use Rattle.pair.specs.World.{Side, other, Refused, Envelope, World, recordOf, isMessage, act, Comes, All, nothing, Acts, Step, acts, loses}
+use Rattle.pair.proofs.Lists.{all-map}
 use Rattle.pair.proofs.Posting.{posted-to, all-posted}
 use Rattle.pair.proofs.Taking.{taken-of, first-of, left}
 use Rattle.pair.proofs.Loss.{all-fewer}
 use Rattle.pair.proofs.Directions.{Direction, direction}
 use Rattle.pair.proofs.Invariant.{kindOf, outgoing, Invariant}
-use Rattle.pair.proofs.Reaching.{on-sides, remain, Good, step-of, acted, stepping, reached}
-use Rattle.pair.proofs.Targets.{granting}
+use Rattle.pair.proofs.Reaching.{on-sides, remain, answer-laws, AllTimely, Good, acted, stepping, reached}
+use Rattle.pair.proofs.Targets.{granting, denying}
 
 -- A tick is no start.
 tick-starts-none : {p : ℕ} {x : Station} {e : Record} {a : Answer} → Source p x e a → e .kind ≡ 15 → to 1 p a ≡ false
@@ -114,12 +115,15 @@ module _ (peer : Side → ℕ) where
 
   -- ---- steps in which nothing starts
 
-  -- no request (1) and no acknowledge (2) is under way
+  -- no request and no answer (kinds 1 to 3) is under way; so none is beyond the limit
   abbrev Quiet : List Envelope → Type 0
-  Quiet messages = All (λ m. 1 ≤ kindOf m → kindOf m ≤ 2 → ⊥) messages
+  Quiet messages = All (λ m. 1 ≤ kindOf m → kindOf m ≤ 3 → ⊥) messages
 
   abbrev Calm : World → Type 0
   Calm w = (s : Side) → Quiet (w .queue s)
+
+  calm-timely : (w : World) → Calm w → AllTimely w
+  calm-timely w calm r s = all-map (λ m none low high. absurd (none low high)) (calm r)
 
   -- After such steps that is still so, and no record of the other station has got a deadline.
   record Calmly (v w : World) : Type 0 where
@@ -128,8 +132,8 @@ module _ (peer : Side → ℕ) where
 
   module _ (w : World) (calm : Calm w) (s : Side) (e : Record) (a : Answer) (taken : Option Envelope) (rest : List Envelope)
       (step : StepLaws (w .station s) e a) (comes : Comes (peer s) e (w .queue (other s)) taken rest) (no-request : to 1 (peer s) a ≡ false) where
-    -- An event from the other station was under way, so it is no request and no acknowledge; and none is sent.
-    none-comes : (k : ℕ) → 1 ≤ k → k ≤ 2 → e .kind ≡ k → e .neighbour ≡ peer s → ⊥
+    -- An event from the other station was under way, so it is no request and no answer; and none is sent.
+    none-comes : (k : ℕ) → 1 ≤ k → k ≤ 3 → e .kind ≡ k → e .neighbour ≡ peer s → ⊥
     none-comes k low high kind from =
         let t = taken-of k low (omega arith) kind from comes in
         first-of t (calm (other s)) (omega arith) (omega arith)
@@ -139,11 +143,18 @@ module _ (peer : Side → ℕ) where
         refuted (to 2 (peer s) a)
         (λ t. let g = granting (step .target (peer s)) t in none-comes 1 (omega arith) (omega arith) (g .kind) (g .neighbour))
 
-    none-sent : isMessage (peer s) (sent a) ≡ true → 1 ≤ sent a .kind → sent a .kind ≤ 2 → ⊥
+    no-failure : to 3 (peer s) a ≡ false
+    no-failure =
+        refuted (to 3 (peer s) a)
+        (λ t. let g = denying (step .target (peer s)) t in none-comes 1 (omega arith) (omega arith) (g .kind) (g .neighbour))
+
+    none-sent : isMessage (peer s) (sent a) ≡ true → 1 ≤ sent a .kind → sent a .kind ≤ 3 → ⊥
     none-sent t low high =
         by-cases (eqb (sent a .kind) 1)
         (λ u. true≢false (sym (posted-to (peer s) a 1 t (eqb-true (sent a .kind) 1 u)) ∙ no-request))
-        (λ u. true≢false (sym (posted-to (peer s) a 2 t (omega (arith, eqb-false (sent a .kind) 1 u))) ∙ no-acknowledge))
+        (λ u. by-cases (eqb (sent a .kind) 2)
+        (λ v. true≢false (sym (posted-to (peer s) a 2 t (eqb-true (sent a .kind) 2 v)) ∙ no-acknowledge))
+        (λ v. true≢false (sym (posted-to (peer s) a 3 t (omega (arith, eqb-false (sent a .kind) 1 u, eqb-false (sent a .kind) 2 v))) ∙ no-failure)))
 
     acted-due : (i d : ℕ) → due (a .station) (peer s) i ≡ some d → due (w .station s) (peer s) i ≡ some d
     acted-due i d now =
@@ -162,7 +173,7 @@ module _ (peer : Side → ℕ) where
 
   module _ {w w' : World} (good : Good peer w) (calm : Calm w) where
     acts-calmly : (s : Side) (e : Record) (a : Answer) → Acts peer w s e a w' → to 1 (peer s) a ≡ false → Calmly w w'
-    acts-calmly s e a x no-request = rw (x .becomes) (acted-calmly w calm s e a (x .taken) (x .rest) (step-of peer good x) (x .comes) no-request)
+    acts-calmly s e a x no-request = rw (x .becomes) (acted-calmly w calm s e a (x .taken) (x .rest) (answer-laws (good .reached s) (x .answers)) (x .comes) no-request)
 
     calmly : (x : Step peer w w') → starts peer x ≡ false → Calmly w w'
     calmly (acts s e a x) no-request = acts-calmly s e a x no-request
@@ -175,10 +186,10 @@ module _ (peer : Side → ℕ) where
 
   calmly-all : {w w' : World} → Good peer w → Calm w → Still peer w w' → Good peer w' × Calmly w w'
   calmly-all good calm here = (good, record { calm = calm; due-before = λ s i d now. now })
-  calmly-all good calm (onward still x none) =
+  calmly-all good calm (onward {w' = w'} still x none) =
       let before = calmly-all good calm still in
       let after = calmly (before .0) (before .1 .calm) x none in (
-        stepping peer (before .0) x,
+        stepping peer (before .0) x (calm-timely w' (after .calm)),
         record { calm = after .calm; due-before = λ s i d now. before .1 .due-before s i d (after .due-before s i d now) },
       )
 
@@ -189,9 +200,9 @@ module _ (peer : Side → ℕ) where
     settles-at : AtRest peer w' s
     settles-at =
         let before = calmly-all good calm (n .still) in
-        let step = step-of peer (before .0) (n .acts) in
+        let step = answer-laws (before .0 .reached s) (n .acts .answers) in
         let tick = acts-calmly (before .0) (before .1 .calm) s (n .event) (n .answer) (n .acts) (tick-starts-none (step .source (peer s)) (n .kind)) in
-        let later = calmly-all (acted peer s (n .event) (n .answer) (before .0) (n .acts)) (tick .calm) (n .later) in
+        let later = calmly-all (acted peer s (n .event) (n .answer) (before .0) (n .acts) (calm-timely (n .after) (tick .calm))) (tick .calm) (n .later) in
         at-rest (later .0) s
         (λ i d now.
         let ticked = tick .due-before s i d (later .1 .due-before s i d now) in
@@ -212,7 +223,7 @@ module _ (peer : Side → ℕ) where
             let good = reached peer run in
             at-rest good s
             (λ i d now.
-            let above = step-laws (good .reached s) (x .tick s) (x .bearers) (x .room) .nine (peer s) i d (x .kind s) (x .none-due s) now in
+            let above = answer-laws (good .reached s) (x .answers s) .nine (peer s) i d (x .kind s) (x .none-due s) now in
             let below = x .past s i d now in
             omega arith);
       }

@@ -70,7 +70,7 @@ ticks s time = does s (tick time)
 -- ---- what becomes of it
 
 pub fresh : Run peer both
-fresh = begin (λ s. cases.freshly) (λ s. record { settings = cases.settings; born = refl })
+fresh = record { course = begin (λ s. cases.freshly) (λ s. record { settings = cases.settings; born = refl }); limited = tt }
 
 -- what is told of it: what B answered, whether the UE arrived, whether its release came while A stood prepared, its one ending
 abbrev pub history : Answered → Bool → Bool → ℕ → Handover
@@ -104,13 +104,12 @@ module _ {answer : Answered} {arrived came : Bool} {end : ℕ} where
       let first = both-true (playable peer both script) (maySettle peer quiet ts && isSettled peer (ended peer quiet ts)) t in
       let second = both-true (maySettle peer quiet ts) (isSettled peer (ended peer quiet ts)) (first .1) in
       let run = run-on peer fresh (steps peer both script (first .0)) in
-      let settling = settles peer quiet ts (second .0) in
       record {
         quiet = quiet;
         run = run;
         world = ended peer quiet ts;
-        settles = settling;
-        goes-on = settled-run peer run settling;
+        settles = settles peer quiet ts (second .0);
+        goes-on = settled-run peer run ts (second .0);
         settled = settled peer (ended peer quiet ts) (second .1);
         handover = handover;
       }

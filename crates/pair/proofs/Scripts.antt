@@ -24,7 +24,7 @@ use Rattle.table.specs.Step.{stepOf}
 use Rattle.table.specs.Table.{findFrom, dueFrom}
 use Rattle.promises.specs.Views.{named, out, held, due}
 use Rattle.pair.proofs.Lists.{all-pass}
-use Rattle.pair.specs.World.{Side, A, B, other, Numbers, Envelope, World, act, asSent, Carries, request, plain, isMessage, own, take, All, nothing, more, Bounded, withQueue, Acts, Step, acts, loses, Run, next, limit}
+use Rattle.pair.specs.World.{Side, A, B, other, Numbers, Envelope, World, act, asSent, Carries, request, plain, isMessage, own, take, All, nothing, more, Bounded, withQueue, Acts, Step, acts, loses, next, Run, limit}
 
 -- ---- what a side does
 
@@ -109,74 +109,77 @@ bounded w t r s =
     (at-side (λ x. recent x (w .numbers x) (w .queue r)) (at-side (λ y. toBoth (λ x. recent x (w .numbers x) (w .queue y))) t r) s)
 
 module _ (peer : Side → ℕ) where
-  abbrev pub mayHear : World → Side → List ℕ → List Envelope → Bool
-  mayHear w s bearers [] = false
-  mayHear w s bearers (m ∷ rest) = below (fields (arriving (peer s) bearers (m .message))) && isBounded (hearing peer w s bearers (m ∷ rest))
+  abbrev pub canHear : Side → List ℕ → List Envelope → Bool
+  canHear s bearers [] = false
+  canHear s bearers (m ∷ rest) = below (fields (arriving (peer s) bearers (m .message)))
 
-  abbrev pub mayMiss : List Envelope → Bool
-  mayMiss [] = false
-  mayMiss (m ∷ rest) = true
+  abbrev pub canMiss : List Envelope → Bool
+  canMiss [] = false
+  canMiss (m ∷ rest) = true
 
   -- "a message event with that number is taken from the queue and from nowhere else"
-  abbrev pub may : World → Move → Bool
-  may w (does s e) = not (isMessage (peer s) e) && (below (fields e) && isBounded (after peer w (does s e)))
-  may w (hears s bearers) = mayHear w s bearers (w .queue (other s))
-  may w (misses s) = mayMiss (w .queue (other s))
+  abbrev pub can : World → Move → Bool
+  can w (does s e) = not (isMessage (peer s) e) && below (fields e)
+  can w (hears s bearers) = canHear s bearers (w .queue (other s))
+  can w (misses s) = canMiss (w .queue (other s))
 
-  -- A move that may be made is a step.
-  heard : (w : World) (s : Side) (bearers : List ℕ) (queue : List Envelope) → w .queue (other s) ≡ queue → mayHear w s bearers queue ≡ true
+  -- A move that can be made is a step.
+  heard : (w : World) (s : Side) (bearers : List ℕ) (queue : List Envelope) → w .queue (other s) ≡ queue → canHear s bearers queue ≡ true
       → Step peer w (hearing peer w s bearers queue)
   heard w s bearers [] q t = absurd (false≢true t)
   heard w s bearers (m ∷ rest) q t =
       let e = arriving (peer s) bearers (m .message) in
-      let both = both-true (below (fields e)) (isBounded (hearing peer w s bearers (m ∷ rest))) t in
       acts s e (stepOf (w .station s) e bearers 256)
       (record {
-        range = in-range e (both .0);
-        bearers = bearers;
-        room = 256;
-        answers = refl;
+        range = in-range e t;
+        answers = record { bearers = bearers; room = 256; stepped = refl };
         taken = some m;
         rest = rest;
         comes = take q (carries (peer s) bearers (m .message));
         becomes = refl;
-        bounded = bounded (hearing peer w s bearers (m ∷ rest)) (both .1);
       })
 
-  missed : (w : World) (s : Side) (queue : List Envelope) → w .queue (other s) ≡ queue → mayMiss queue ≡ true → Step peer w (missing peer w s queue)
+  missed : (w : World) (s : Side) (queue : List Envelope) → w .queue (other s) ≡ queue → canMiss queue ≡ true → Step peer w (missing peer w s queue)
   missed w s [] q t = absurd (false≢true t)
   missed w s (m ∷ rest) q t = loses (other s) (record { older = []; lost = m; younger = rest; was = q; becomes = refl })
 
-  pub did : (w : World) (s : Side) (e : Record) → may w (does s e) ≡ true → Acts peer w s e (stepOf (w .station s) e [] 256) (after peer w (does s e))
+  pub did : (w : World) (s : Side) (e : Record) → can w (does s e) ≡ true → Acts peer w s e (stepOf (w .station s) e [] 256) (after peer w (does s e))
   did w s e t =
-      let first = both-true (not (isMessage (peer s) e)) (below (fields e) && isBounded (after peer w (does s e))) t in
-      let second = both-true (below (fields e)) (isBounded (after peer w (does s e))) (first .1) in
+      let both = both-true (not (isMessage (peer s) e)) (below (fields e)) t in
       record {
-        range = in-range e (second .0);
-        bearers = [];
-        room = 256;
-        answers = refl;
+        range = in-range e (both .1);
+        answers = record { bearers = []; room = 256; stepped = refl };
         taken = none;
         rest = w .queue (other s);
-        comes = own (not-true (isMessage (peer s) e) (first .0));
+        comes = own (not-true (isMessage (peer s) e) (both .0));
         becomes = refl;
-        bounded = bounded (after peer w (does s e)) (second .1);
       }
 
-  pub step : (w : World) (m : Move) → may w m ≡ true → Step peer w (after peer w m)
+  pub step : (w : World) (m : Move) → can w m ≡ true → Step peer w (after peer w m)
   step w (does s e) t = acts s e (stepOf (w .station s) e [] 256) (did w s e t)
   step w (hears s bearers) t = heard w s bearers (w .queue (other s)) refl t
   step w (misses s) t = missed w s (w .queue (other s)) refl t
 
+  -- One that may be made keeps the limit too, and so continues a run.
+  abbrev pub may : World → Move → Bool
+  may w m = can w m && isBounded (after peer w m)
+
+  onward : {w w' : World} → Run peer w → Step peer w w' → Bounded w' → Run peer w'
+  onward r x kept = record { course = next (r .course) x; limited = (r .limited, kept) }
+
+  pub moves-on : {w : World} → Run peer w → (m : Move) → may w m ≡ true → Run peer (after peer w m)
+  moves-on {w} r m t = let both = both-true (can w m) (isBounded (after peer w m)) t in onward r (step w m (both .0)) (bounded (after peer w m) (both .1))
+
   -- ---- scripts
 
+  -- steps within the limit
   pub data Steps : World → World → Type 0 where
     done : {w : World} → Steps w w
-    first : {v w w' : World} → Step peer w v → Steps v w' → Steps w w'
+    first : {v w w' : World} → Step peer w v → Bounded v → Steps v w' → Steps w w'
 
   pub run-on : {w w' : World} → Run peer w → Steps w w' → Run peer w'
   run-on r done = r
-  run-on r (first x xs) = run-on (next r x) xs
+  run-on r (first x kept xs) = run-on (onward r x kept) xs
 
   -- whether each of its moves may be made
   unfoldable pub playable : World → List Move → Bool
@@ -189,4 +192,5 @@ module _ (peer : Side → ℕ) where
   steps w [] t = done
   steps w (m ∷ ms) t =
       let both = both-true (may w m) (playable (after peer w m) ms) t in
-      first (step w m (both .0)) (steps (after peer w m) ms (both .1))
+      let this = both-true (can w m) (isBounded (after peer w m)) (both .0) in
+      first (step w m (this .0)) (bounded (after peer w m) (this .1)) (steps (after peer w m) ms (both .1))

@@ -19,8 +19,8 @@ use Rattle.table.specs.declared.Answer.{Answer}
 use Rattle.handover.specs.declared.Entry.{Entry}
 use Rattle.table.specs.declared.Station.{Station}
 use Rattle.pair.specs.Theorem.{Past, Settled, Still, here, onward, Nine, Settles}
-use Rattle.pair.specs.World.{Side, A, B, Envelope, World, acts, Run, next}
-use Rattle.pair.proofs.Scripts.{does, after, played, may, did, toBoth, at-side}
+use Rattle.pair.specs.World.{Side, A, B, Envelope, World, Acts, acts, Run}
+use Rattle.pair.proofs.Scripts.{does, after, played, can, may, did, moves-on, isBounded, toBoth, at-side}
 
 -- ---- nothing is under way, and no deadline is past the last time
 
@@ -94,8 +94,8 @@ module _ (peer : Side → ℕ) where
         tick = λ s. tick lastTime;
         kind = λ s. refl;
         past = λ s. quiet w (parts .0) s .1;
-        bearers = [];
-        room = 256;
+        answer = λ s. atTick w s lastTime;
+        answers = λ s. record { bearers = []; room = 256; stepped = refl };
         none-due = λ s. eqb-true (atTick w s lastTime .outcome .reply) 9 (at-side (isNine w) (parts .1) s);
       }
 
@@ -107,10 +107,19 @@ module _ (peer : Side → ℕ) where
   abbrev pub mayTick : World → Side → ℕ → Bool
   mayTick w s time = may peer w (does s (tick time)) && not (to 1 (peer s) (atTick w s time))
 
+  may-move : (v : World) (s : Side) (time : ℕ) → mayTick v s time ≡ true → may peer v (does s (tick time)) ≡ true
+  may-move v s time t = both-true (may peer v (does s (tick time))) (not (to 1 (peer s) (atTick v s time))) t .0
+
+  tick-acts : (v : World) (s : Side) (time : ℕ) → mayTick v s time ≡ true → Acts peer v s (tick time) (atTick v s time) (ticked v s time)
+  tick-acts v s time t = did peer v s (tick time) (both-true (can peer v (does s (tick time))) (isBounded (ticked v s time)) (may-move v s time t) .0)
+
   ticks-on : {w v : World} → Still peer w v → (s : Side) (time : ℕ) → mayTick v s time ≡ true → Still peer w (ticked v s time)
   ticks-on {v = v} still s time t =
-      let parts = both-true (may peer v (does s (tick time))) (not (to 1 (peer s) (atTick v s time))) t in
-      onward still (acts s (tick time) (atTick v s time) (did peer v s (tick time) (parts .0))) (not-true (to 1 (peer s) (atTick v s time)) (parts .1))
+      onward still (acts s (tick time) (atTick v s time) (tick-acts v s time t))
+      (not-true (to 1 (peer s) (atTick v s time)) (both-true (may peer v (does s (tick time))) (not (to 1 (peer s) (atTick v s time))) t .1))
+
+  tick-runs : {v : World} → Run peer v → (s : Side) (time : ℕ) → mayTick v s time ≡ true → Run peer (ticked v s time)
+  tick-runs {v} r s time t = moves-on peer r (does s (tick time)) (may-move v s time t)
 
   -- the last tick finds none due
   abbrev pub mayEnd : World → Side → Bool
@@ -125,7 +134,7 @@ module _ (peer : Side → ℕ) where
         event = tick lastTime;
         answer = atTick v s lastTime;
         after = ticked v s lastTime;
-        acts = did peer v s (tick lastTime) (both-true (may peer v (does s (tick lastTime))) (not (to 1 (peer s) (atTick v s lastTime))) (parts .0) .0);
+        acts = tick-acts v s lastTime (parts .0);
         kind = refl;
         time = refl;
         none-due = eqb-true (atTick v s lastTime .outcome .reply) 9 (parts .1);
@@ -166,10 +175,15 @@ module _ (peer : Side → ℕ) where
         nine = each-nine here ts (parts .1);
       }
 
-  -- What settles is a run still.
-  still-run : {w w' : World} → Run peer w → Still peer w w' → Run peer w'
-  still-run r here = r
-  still-run r (onward still x e) = next (still-run r still) x
+  -- What settles by ticks is a run still.
+  ended-run : {w : World} → Run peer w → (ts : List (Side × ℕ)) → mayEndAfter w ts ≡ true → Run peer (ended w ts)
+  ended-run {w} r [] t =
+      let parts = both-true (mayEnd w A) (mayEnd (ticked w A lastTime) B) t in
+      let first = tick-runs r A lastTime (both-true (mayTick w A lastTime) (isNine w A) (parts .0) .0) in
+      tick-runs first B lastTime (both-true (mayTick (ticked w A lastTime) B lastTime) (isNine (ticked w A lastTime) B) (parts .1) .0)
+  ended-run {w} r ((s, time) ∷ ts) t =
+      let parts = both-true (mayTick w s time) (mayEndAfter (ticked w s time) ts) t in
+      ended-run (tick-runs r s time (parts .0)) ts (parts .1)
 
-  pub settled-run : {w w' : World} → Run peer w → Settles peer w w' → Run peer w'
-  settled-run r x = let last = x .nine A in still-run (next (still-run r (last .still)) (acts A (last .event) (last .answer) (last .acts))) (last .later)
+  pub settled-run : {w : World} → Run peer w → (ts : List (Side × ℕ)) → maySettle w ts ≡ true → Run peer (ended w ts)
+  settled-run {w} r ts t = ended-run r ts (both-true (toBoth (isQuiet w)) (mayEndAfter w ts) t .1)

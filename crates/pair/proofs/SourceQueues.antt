@@ -1,6 +1,6 @@
 -- A turn of the source, the messages under way: those that stay keep what held of them, since neither their Old IDs are issued nor what was
 -- answered changes; a request that is sent is of a new handover.
-use Prim.Native.Nat.{ℕ}
+use Prim.Native.Nat.{ℕ, _≤_}
 use mathlib.Core.Path.{_≡_, sym, ap, _∙_}
 use mathlib.Core.Bool.{true, false, _&&_, true≢false}
 use mathlib.Core.List.{List}
@@ -12,9 +12,9 @@ use Rattle.laws.proofs.Tests.{by-cases, refuted}
 use Rattle.records.specs.declared.Record.{Record}
 use Rattle.table.specs.declared.Answer.{Answer}
 use Rattle.promises.specs.Views.{someOut, sent, to, issued}
-use Rattle.pair.specs.World.{Side, nextIssue, Envelope, Answered, Fixed, Refused, letter, isMessage, posted, Recent}
+use Rattle.pair.specs.World.{Side, nextIssue, Envelope, Answered, Fixed, Refused, letter, isMessage, posted}
 use Rattle.pair.proofs.Lists.{all-map, all-both, all-front}
-use Rattle.pair.proofs.Directions.{Direction, SourceStep}
+use Rattle.pair.proofs.Directions.{Direction, Timely, SourceStep}
 use Rattle.pair.proofs.Invariant.{kindOf, oldOf, newOf, setOf, recordFor, Requested, Replied, Released, New, Requests, Once, Acknowledges, Failures, Releases, HeldFixed, Order, HeldAcknowledge, Invariant}
 use Rattle.pair.proofs.Ledger.{number-kept, count-grows}
 use Rattle.pair.proofs.Taking.{left, left-pairs}
@@ -48,12 +48,12 @@ module _ {s : Side} {d : Direction} {e : Record} {a : Answer} {taken : Option En
   request-belongs : sent a .kind ≡ 1 → posting .tag ≡ nextIssue (d .numbers)
   request-belongs kind = rw kind
 
-  request-kept : (m : Envelope) → (kindOf m ≡ 1 → Requested s d m) → Recent s (after x .numbers) m → kindOf m ≡ 1 → Requested s (after x) m
-  request-kept m was recent kind =
+  request-kept : (m : Envelope) → (kindOf m ≡ 1 → Requested s d m) → Timely s (after x .numbers) m → kindOf m ≡ 1 → Requested s (after x) m
+  request-kept m was timely kind =
       let k = was kind in
       record {
         named = k .named;
-        latest = under-way x inv m (k .named) (k .latest) (omega arith) recent;
+        latest = under-way x inv m (k .named) (k .latest) (omega arith) (timely (omega arith) (omega arith));
         stamped = k .stamped;
         asked = asked-stays x (m .tag) (k .asked);
         unanswered = k .unanswered;
@@ -74,7 +74,7 @@ module _ {s : Side} {d : Direction} {e : Record} {a : Answer} {taken : Option En
   pub requests-kept : Requests s (after x)
   requests-kept =
       all-posted (d .towards) posting (d .requests)
-      (all-both request-kept (inv .requests) (all-front (d .requests) (posted (d .towards) posting) (x .requests-recent)))
+      (all-both request-kept (inv .requests) (all-front (d .requests) (posted (d .towards) posting) (x .requests-timely)))
       request-new
 
   pub once-kept : Once s (after x)
@@ -89,9 +89,9 @@ module _ {s : Side} {d : Direction} {e : Record} {a : Answer} {taken : Option En
 
   -- ---- answers and releases
 
-  reply-kept : (m : Envelope) (answer : Answered) → Replied s d m answer → Recent s (after x .numbers) m → Replied s (after x) m answer
-  reply-kept m answer was recent =
-      record { named = was .named; latest = under-way x inv m (was .named) (was .latest) (was .stamped) recent; stamped = was .stamped; answered = was .answered }
+  reply-kept : (m : Envelope) (answer : Answered) → Replied s d m answer → 1 ≤ kindOf m → kindOf m ≤ 3 → Timely s (after x .numbers) m → Replied s (after x) m answer
+  reply-kept m answer was low high timely =
+      record { named = was .named; latest = under-way x inv m (was .named) (was .latest) (was .stamped) (timely low high); stamped = was .stamped; answered = was .answered }
 
   release-kept : (m : Envelope) → Released d m → Released (after x) m
   release-kept m was =
@@ -106,10 +106,10 @@ module _ {s : Side} {d : Direction} {e : Record} {a : Answer} {taken : Option En
       }
 
   pub acknowledges-kept : Acknowledges s (after x)
-  acknowledges-kept = all-both (λ m was recent kind. reply-kept m (Fixed (newOf m) (setOf m)) (was kind) recent) (left (x .comes) (inv .acknowledges)) (x .answers-recent)
+  acknowledges-kept = all-both (λ m was timely kind. reply-kept m (Fixed (newOf m) (setOf m)) (was kind) (omega arith) (omega arith) timely) (left (x .comes) (inv .acknowledges)) (x .answers-timely)
 
   pub failures-kept : Failures s (after x)
-  failures-kept = all-both (λ m was recent kind. reply-kept m Refused (was kind) recent) (left (x .comes) (inv .failures)) (x .answers-recent)
+  failures-kept = all-both (λ m was timely kind. reply-kept m Refused (was kind) (omega arith) (omega arith) timely) (left (x .comes) (inv .failures)) (x .answers-timely)
 
   pub releases-kept : Releases s (after x)
   releases-kept = all-map (λ m was kind. release-kept m (was kind)) (left (x .comes) (inv .releases))

@@ -73,7 +73,7 @@ module _ {s : Side} {d : Direction} {e : Record} {a : Answer} {taken : Option En
       let found = took-of 1 h (x .comes) t in
       let head = found .0 .first in
       let requested = first-of (found .0) (i .requests) (found .0 .kind) in
-      let recent : Recent s (d .numbers) head = first-of (found .0) (x .requests-recent) in
+      let recent : Recent s (d .numbers) head = first-of (found .0) (x .requests-timely) (omega (arith, found .0 .kind)) (omega (arith, found .0 .kind)) in
       let old : e .old .0 ≡ oldOf head = carries-request (found .0 .carries) (found .0 .kind) in
       let tag : head .tag ≡ h = found .1 in
       let latest : d .numbers .issueOf (e .old .0) ≡ h = cc in

@@ -2,7 +2,7 @@
 use Prim.Native.Nat.{ℕ, _≤_, _<_}
 use mathlib.Core.Path.{_≡_}
 use mathlib.Core.Bool.{Bool, true, false, _||_}
-use mathlib.Core.List.{List, [], _∷_}
+use mathlib.Core.List.{[], _∷_}
 use mathlib.Core.Logic.{_↔_}
 use mathlib.Core.Option.{some}
 use lib.Dec.{eqb}
@@ -11,9 +11,8 @@ use Rattle.records.specs.declared.Record.{Record}
 use Rattle.handover.specs.declared.Entry.{Entry}
 use Rattle.handover.specs.Numbers.{blank}
 use Rattle.table.specs.declared.Answer.{Answer}
-use Rattle.table.specs.Step.{stepOf}
 use Rattle.promises.specs.Views.{NotOut, Prepared, NotHeld, Held, someOut, out, held, due, to, isOtherEnding}
-use Rattle.pair.specs.World.{Side, other, Handover, Refused, Fixed, World, Acts, Step, acts, loses, Run}
+use Rattle.pair.specs.World.{Side, other, Handover, Refused, Fixed, World, Answers, Acts, Step, acts, loses, Run}
 
 -- an ending at the source: failed, moved, cancelled, overtime, returned or reset
 abbrev pub isEnding : ℕ → Bool
@@ -71,7 +70,7 @@ module _ (peer : Side → ℕ) where
   abbrev pub Past : World → Side → ℕ → Type 0
   Past w s t = (i d : ℕ) → due (w .station s) (peer s) i ≡ some d → d ≤ t
 
-  -- Steps in which neither station starts a handover towards the other; all else may happen in them.
+  -- Steps in which neither station starts a handover towards the other; all else may happen in them, beyond the limit too.
   abbrev pub starts : {w w' : World} → Step peer w w' → Bool
   starts (acts s e a x) = to 1 (peer s) a
   starts (loses s x) = false
@@ -106,9 +105,9 @@ module _ (peer : Side → ℕ) where
     pub tick : Side → Record
     pub kind : (s : Side) → tick s .kind ≡ 15
     pub past : (s : Side) → Past w s (tick s .time)
-    pub bearers : List ℕ
-    pub room : ℕ
-    pub none-due : (s : Side) → stepOf (w .station s) (tick s) bearers room .outcome .reply ≡ 9
+    pub answer : Side → Answer
+    pub answers : (s : Side) → Answers (w .station s) (tick s) (answer s)
+    pub none-due : (s : Side) → answer s .outcome .reply ≡ 9
 
   -- The theorem.
   pub record Demand : Type 0 where

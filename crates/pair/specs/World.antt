@@ -191,6 +191,13 @@ pub data Carries (p : ℕ) (m : Record) (e : Record) : Type 0 where
   request : m .kind ≡ 1 → e .kind ≡ 1 → e .neighbour ≡ p → e .old .0 ≡ m .old .0 → Carries p m e
   plain : (m .kind ≡ 1 → ⊥) → e ≡ asSent p m → Carries p m e
 
+-- A station's answer to an event is that of its step, whatever is lent beside the event: the bytes of a request's bearers, and room for
+-- its verdicts.
+pub record Answers (x : Station) (e : Record) (a : Answer) : Type 0 where
+  pub bearers : List ℕ
+  pub room : ℕ
+  pub stepped : a ≡ stepOf x e bearers room
+
 -- "Known by a number nobody else uses": a message event that has it is a message of the other station, and every other event comes at any
 -- time. "In order, at most once": it is the oldest under way, which then is gone.
 pub data Comes (p : ℕ) (e : Record) (queue : List Envelope) : Option Envelope → List Envelope → Type 0 where
@@ -244,20 +251,27 @@ module _ (peer : Side → ℕ) where
   -- A station takes an event, its own or the oldest message to it.
   pub record Acts (w : World) (s : Side) (e : Record) (a : Answer) (w' : World) : Type 0 where
     pub range : InRange e
-    pub bearers : List ℕ
-    pub room : ℕ
-    pub answers : a ≡ stepOf (w .station s) e bearers room
+    pub answers : Answers (w .station s) e a
     pub taken : Option Envelope
     pub rest : List Envelope
     pub comes : Comes (peer s) e (w .queue (other s)) taken rest
     pub becomes : w' ≡ act peer w s e a taken rest
-    pub bounded : Bounded w'
 
   pub data Step (w w' : World) : Type 0 where
     acts : (s : Side) (e : Record) (a : Answer) → Acts w s e a w' → Step w w'
     loses : (s : Side) → Loses w s w' → Step w w'
 
-  -- A world that two fresh stations reached.
-  pub data Run : World → Type 0 where
-    begin : (fresh : Side → Station) → ((s : Side) → Fresh (fresh s)) → Run (start fresh)
-    next : {w w' : World} → Run w → Step w w' → Run w'
+  -- A world that two fresh stations reached, step by step, within the limit or not.
+  pub data Course : World → Type 0 where
+    begin : (fresh : Side → Station) → ((s : Side) → Fresh (fresh s)) → Course (start fresh)
+    next : {w w' : World} → Course w → Step w w' → Course w'
+
+  -- whether the limit is kept in each world of it
+  abbrev pub Limited : {w : World} → Course w → Type 0
+  Limited (begin fresh new) = Unit {0}
+  Limited (next {w' = w'} before step) = Limited before × Bounded w'
+
+  -- A world that they reached within the limit.
+  pub record Run (w : World) : Type 0 where
+    pub course : Course w
+    pub limited : Limited course
