@@ -135,7 +135,7 @@ module _ (peer : Side → ℕ) where
         answers = record { bearers = bearers; room = 256; stepped = refl };
         taken = some m;
         rest = rest;
-        comes = take q (carries (peer s) bearers (m .message));
+        comes = take [] rest refl q (carries (peer s) bearers (m .message));
         becomes = refl;
       })
 

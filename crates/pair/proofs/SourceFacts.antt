@@ -41,7 +41,7 @@ module _ {s : Side} {d : Direction} {e : Record} {a : Answer} {taken : Option En
 
   -- A prepared record was so, or was preparing and is what the acknowledge taken says.
   pub record Readied (i n admitted : ℕ) : Type 0 where
-    pub took : Taken 2 (d .towards) e (d .answers) taken rest
+    pub took : Taken 2 (d .towards) e (d .answers) taken
     pub old : oldOf (took .first) ≡ i
     pub new : newOf (took .first) ≡ n
     pub set : setOf (took .first) ≡ admitted

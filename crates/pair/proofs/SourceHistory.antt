@@ -65,7 +65,7 @@ module _ {s : Side} {d : Direction} {e : Record} {a : Answer} {taken : Option En
   -- ---- moved
 
   -- The release of a handover finds its record prepared: it has both its IDs, and so moves it.
-  takes-it : (h n set : ℕ) (t : Taken 5 (d .towards) e (d .answers) taken rest) → Released d (t .first) → t .first .tag ≡ h
+  takes-it : (h n set : ℕ) (t : Taken 5 (d .towards) e (d .answers) taken) → Released d (t .first) → t .first .tag ≡ h
       → d .numbers .issueOf (d .numbers .numberOf h) ≡ h → outgoing d (d .numbers .numberOf h) ≡ Prepared n set
       → (outgoing (after x) (d .numbers .numberOf h) ≡ NotOut) × (ending a ≡ 3)
   takes-it h n set t r tag latest was =

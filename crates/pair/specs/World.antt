@@ -199,10 +199,11 @@ pub record Answers (x : Station) (e : Record) (a : Answer) : Type 0 where
   pub stepped : a ≡ stepOf x e bearers room
 
 -- "Known by a number nobody else uses": a message event that has it is a message of the other station, and every other event comes at any
--- time. "In order, at most once": it is the oldest under way, which then is gone.
+-- time. "In order": none that is under way with it is older. "At most once": then it is gone.
 pub data Comes (p : ℕ) (e : Record) (queue : List Envelope) : Option Envelope → List Envelope → Type 0 where
   own : isMessage p e ≡ false → Comes p e queue none queue
-  take : {m : Envelope} {rest : List Envelope} → queue ≡ m ∷ rest → Carries p (m .message) e → Comes p e queue (some m) rest
+  take : (older : List Envelope) {m : Envelope} (younger : List Envelope) → older ≡ [] → queue ≡ older ++ (m ∷ younger) → Carries p (m .message) e
+      → Comes p e queue (some m) (older ++ younger)
 
 -- what holds of every entry of a list
 pub data All {T : Type 0} (P : T → Type 0) : List T → Type 0 where
