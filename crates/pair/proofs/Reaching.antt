@@ -2,7 +2,7 @@
 -- an event is a source in its own direction and a target in the other; and a message that is lost goes from one queue of each.
 use Prim.Native.Nat.{ℕ}
 use mathlib.Core.Path.{refl}
-use mathlib.Core.List.{List, _++_}
+use mathlib.Core.List.{List}
 use mathlib.Core.Option.{Option}
 use Rattle.records.specs.Record.{InRange}
 use Rattle.records.specs.declared.Record.{Record}
@@ -11,7 +11,7 @@ use Rattle.table.specs.declared.Answer.{Answer}
 use Rattle.table.specs.declared.Station.{Station}
 use Rattle.table.specs.Reached.{Reached, stepped}
 use Rattle.promises.specs.Views.{StepLaws}
-use Rattle.pair.specs.World.{Side, A, B, other, sides, nextIssue, Envelope, World, issuedAfter, act, Answers, Comes, All, nothing, Acts, Loses, Step, acts, loses, start, Fresh, Course, begin, next, Limited, Run}
+use Rattle.pair.specs.World.{Side, A, B, other, sides, nextIssue, Envelope, World, issuedAfter, act, Answers, Comes, All, nothing, withQueue, Acts, Loses, Step, acts, loses, start, Fresh, Course, begin, next, Limited, Run}
 use Rattle.pair.proofs.Lists.{all-map}
 use Rattle.pair.proofs.Directions.{direction, Timely}
 use Rattle.pair.proofs.Invariant.{Invariant}
@@ -28,8 +28,8 @@ on-sides P B mine others A = others
 on-sides P B mine others B = mine
 
 -- Where a message is lost, of what each side has sent there is as much as before, or one less.
-pub remain : {w w' : World} {s : Side} (x : Loses w s w') (r : Side) → Fewer (sides s (x .older ++ x .younger) (w .queue (other s)) r) (w .queue r)
-remain {w} {s = s} x = on-sides (λ r messages. Fewer messages (w .queue r)) s (rw (x .was) (without (x .older) (x .lost) (x .younger))) same
+pub remain : (w : World) (s : Side) {rest : List Envelope} → Loses (w .queue s) rest → (r : Side) → Fewer (withQueue w s rest .queue r) (w .queue r)
+remain w s x = on-sides (λ r messages. Fewer messages (w .queue r)) s (rw (x .was, x .left) (without (x .older) (x .lost) (x .younger))) same
 
 -- What a reached station answers keeps the laws, and leaves a reached station.
 pub answer-laws : {x : Station} {e : Record} {a : Answer} → Reached x → Answers x e a → StepLaws x e a
@@ -101,14 +101,13 @@ module _ (peer : Side → ℕ) where
 
   -- ---- a message is lost
 
-  lost : {w w' : World} (s : Side) → Good w → Loses w s w' → Good w'
+  lost : {w : World} (s : Side) {rest : List Envelope} → Good w → Loses (w .queue s) rest → Good (withQueue w s rest)
   lost {w} s good x =
-      rw (x .becomes)
-      (record {
+      record {
         reached = good .reached;
-        timely = λ r q. all-fewer (remain x r) (good .timely r q);
-        invariant = λ r. loss r (direction peer w r) _ _ (remain x r) (remain x (other r)) (good .invariant r);
-      })
+        timely = λ r q. all-fewer (remain w s x r) (good .timely r q);
+        invariant = λ r. loss r (direction peer w r) _ _ (remain w s x r) (remain w s x (other r)) (good .invariant r);
+      }
 
   -- ---- so every world that is reached
 

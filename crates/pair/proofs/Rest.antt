@@ -171,18 +171,13 @@ module _ (peer : Side → ℕ) where
           due-before = on-sides (λ r x. (i d : ℕ) → due x (peer r) i ≡ some d → due (w .station r) (peer r) i ≡ some d) s acted-due (λ i d now. now);
         }
 
-  module _ {w w' : World} (good : Good peer w) (calm : Calm w) where
-    acts-calmly : (s : Side) (e : Record) (a : Answer) → Acts peer w s e a w' → to 1 (peer s) a ≡ false → Calmly w w'
+  module _ {w : World} (good : Good peer w) (calm : Calm w) where
+    acts-calmly : {w' : World} (s : Side) (e : Record) (a : Answer) → Acts peer w s e a w' → to 1 (peer s) a ≡ false → Calmly w w'
     acts-calmly s e a x no-request = rw (x .becomes) (acted-calmly w calm s e a (x .taken) (x .rest) (answer-laws (good .reached s) (x .answers)) (x .comes) no-request)
 
-    calmly : (x : Step peer w w') → starts peer x ≡ false → Calmly w w'
+    calmly : {w' : World} (x : Step peer w w') → starts peer x ≡ false → Calmly w w'
     calmly (acts s e a x) no-request = acts-calmly s e a x no-request
-    calmly (loses s x) no-request =
-        rw (x .becomes)
-        (record {
-          calm = λ r. all-fewer (remain x r) (calm r);
-          due-before = λ r i d now. now;
-        })
+    calmly (loses s x) no-request = record { calm = λ r. all-fewer (remain w s x r) (calm r); due-before = λ r i d now. now }
 
   calmly-all : {w w' : World} → Good peer w → Calm w → Still peer w w' → Good peer w' × Calmly w w'
   calmly-all good calm here = (good, record { calm = calm; due-before = λ s i d now. now })

@@ -141,7 +141,7 @@ module _ (peer : Side → ℕ) where
 
   missed : (w : World) (s : Side) (queue : List Envelope) → w .queue (other s) ≡ queue → canMiss queue ≡ true → Step peer w (missing peer w s queue)
   missed w s [] q t = absurd (false≢true t)
-  missed w s (m ∷ rest) q t = loses (other s) (record { older = []; lost = m; younger = rest; was = q; becomes = refl })
+  missed w s (m ∷ rest) q t = loses (other s) (record { older = []; lost = m; younger = rest; was = q; left = refl })
 
   pub did : (w : World) (s : Side) (e : Record) → can w (does s e) ≡ true → Acts peer w s e (stepOf (w .station s) e [] 256) (after peer w (does s e))
   did w s e t =

@@ -1,20 +1,23 @@
--- Two stations that know each other, the messages under way between them, and the history that the theorem speaks of.
+-- Two stations that know each other, and the messages under way between them. First what happens: stations, events, queues, losses. Then
+-- what is told of it: the numbers that were issued and the handovers, written beside the stations and flowing into none. Then both: a
+-- world, its steps and its runs.
 use Prim.Native.Nat.{ℕ, _+_, _<_}
 use mathlib.Core.Path.{_≡_}
 use mathlib.Core.Bool.{Bool, true, false, cond, not, _&&_, _||_}
 use mathlib.Core.List.{List, [], _∷_, _++_}
 use mathlib.Core.Option.{Option, none, some}
 use lib.Dec.{leb, eqb}
-use Rattle.records.specs.Record.{InRange}
+use Rattle.records.specs.Record.{InRange, altered}
 use Rattle.records.specs.declared.Record.{Record}
 use Rattle.table.specs.declared.Answer.{Answer}
 use Rattle.table.specs.declared.Settings.{Settings}
 use Rattle.table.specs.declared.Station.{Station}
 use Rattle.table.specs.Step.{stepOf, bornOf}
-use Rattle.records.specs.Record.{altered}
 use Rattle.promises.specs.Views.{Outgoing, NotOut, Preparing, Prepared, someOut, someHeld, out, held, sent, ending, to, issued}
 
--- ---- two sides
+-- ==== what happens
+
+-- ---- two stations, A and B
 
 pub data Side : Type 0 where
   A : Side
@@ -31,7 +34,64 @@ sides A here there B = there
 sides B here there A = there
 sides B here there B = here
 
--- ---- history: nothing of it is in a station or a message
+-- "fresh", of any settings
+pub record Fresh (x : Station) : Type 0 where
+  pub settings : Settings
+  pub born : x ≡ bornOf settings
+
+-- A station's answer to an event is that of its step, whatever is lent beside the event: the bytes of a request's bearers, and room for
+-- its verdicts.
+pub record Answers (x : Station) (e : Record) (a : Answer) : Type 0 where
+  pub bearers : List ℕ
+  pub room : ℕ
+  pub stepped : a ≡ stepOf x e bearers room
+
+-- ---- messages under way
+
+-- A message "under way": after the step that sent it, until the step that takes or loses it. Two marks are told of it, and nothing that
+-- happens looks at them: the handover to which it belongs, 0 if to none, and how many own IDs each side had issued when it was sent.
+pub record Envelope : Type 0 where
+  pub message : Record
+  pub tag : ℕ
+  pub stamp : Side → ℕ
+
+-- A message (kinds 1 to 8) with a neighbour's number: it comes from that neighbour, or goes to it. Kind 20 goes to the MME, and is none.
+abbrev pub isMessage : ℕ → Record → Bool
+isMessage p m = leb 1 (m .kind) && leb (m .kind) 8 && eqb (m .neighbour) p
+
+-- what is put under way: a message to the other station
+abbrev pub posted : ℕ → Envelope → List Envelope
+posted p m = cond (isMessage p (m .message)) (m ∷ []) []
+
+-- A message "may be lost", wherever it stands.
+pub record Loses (queue rest : List Envelope) : Type 0 where
+  pub older : List Envelope
+  pub lost : Envelope
+  pub younger : List Envelope
+  pub was : queue ≡ older ++ (lost ∷ younger)
+  pub left : rest ≡ older ++ younger
+
+-- ---- events
+
+-- "It arrives unaltered if it reaches the peer with the same Old ID" (its bearers are left open here, and so is all else); "in every other
+-- kind all fields arrive as sent, with the sender's neighbour number in byte 1".
+abbrev pub asSent : ℕ → Record → Record
+asSent p m = altered (m .kind) p (m .number) (m .time) m
+
+pub data Carries (p : ℕ) (m : Record) (e : Record) : Type 0 where
+  request : m .kind ≡ 1 → e .kind ≡ 1 → e .neighbour ≡ p → e .old .0 ≡ m .old .0 → Carries p m e
+  plain : (m .kind ≡ 1 → ⊥) → e ≡ asSent p m → Carries p m e
+
+-- "Known by a number nobody else uses": a message event that has it is a message of the other station, and every other event comes at any
+-- time. "In order": none that is under way with it is older. "At most once": then it is gone.
+pub data Comes (p : ℕ) (e : Record) (queue : List Envelope) : Option Envelope → List Envelope → Type 0 where
+  own : isMessage p e ≡ false → Comes p e queue none queue
+  take : (older : List Envelope) {m : Envelope} (younger : List Envelope) → older ≡ [] → queue ≡ older ++ (m ∷ younger) → Carries p (m .message) e
+      → Comes p e queue (some m) (older ++ younger)
+
+-- ==== what is told of it
+
+-- ---- numbers and handovers
 
 -- What a station has issued: how many own IDs; which issue last gave an own ID, 0 if none did; the own ID that an issue gave.
 -- Issues are counted from 1.
@@ -62,23 +122,7 @@ pub record Handover : Type 0 where
 abbrev pub untold : Handover
 untold = record { asked = false; answer = Silent; arrived = false; came = false; endings = [] }
 
--- A message "under way": after the step that sent it, until the step that takes or loses it. With it the handover to which it belongs, 0
--- if to none, and how many own IDs each side had issued when it was sent.
-pub record Envelope : Type 0 where
-  pub message : Record
-  pub tag : ℕ
-  pub stamp : Side → ℕ
-
--- The two stations, and the messages that each has sent, the oldest first; beside them, for each side as a source, the history: what
--- it issued, for which of its handovers the other station last fixed a New ID, and its handovers.
-pub record World : Type 0 where
-  pub station : Side → Station
-  pub queue : Side → List Envelope
-  pub numbers : Side → Numbers
-  pub fixedFor : Side → ℕ → ℕ
-  pub handovers : Side → ℕ → Handover
-
--- ---- what a step adds to the history
+-- ---- what a step adds
 
 -- an own ID is issued, or none
 abbrev pub issuing : Option ℕ → Numbers → Numbers
@@ -150,13 +194,27 @@ belongs issue taken fixed m =
 abbrev pub letter : Answer → ℕ → Option Envelope → (ℕ → ℕ) → (Side → ℕ) → Envelope
 letter a issue taken fixed stamp = record { message = sent a; tag = belongs issue taken fixed (sent a); stamp = stamp }
 
--- A message (kinds 1 to 8) with a neighbour's number: it comes from that neighbour, or goes to it. Kind 20 goes to the MME, and is none.
-abbrev pub isMessage : ℕ → Record → Bool
-isMessage p m = leb 1 (m .kind) && leb (m .kind) 8 && eqb (m .neighbour) p
+-- ==== the world
 
--- what is put under way: a message to the other station
-abbrev pub posted : ℕ → Envelope → List Envelope
-posted p m = cond (isMessage p (m .message)) (m ∷ []) []
+-- What happens: the two stations, and the messages that each has sent, the oldest first. What is told, of each side as a source: what it
+-- issued, for which of its handovers the other station last fixed a New ID, and its handovers.
+pub record World : Type 0 where
+  pub station : Side → Station
+  pub queue : Side → List Envelope
+  pub numbers : Side → Numbers
+  pub fixedFor : Side → ℕ → ℕ
+  pub handovers : Side → ℕ → Handover
+
+-- "Two fresh stations": nothing is under way, and nothing is told.
+abbrev pub start : (Side → Station) → World
+start fresh =
+    record {
+      station = fresh;
+      queue = λ s. [];
+      numbers = λ s. record { issuedCount = 0; issueOf = λ i. 0; numberOf = λ h. 0 };
+      fixedFor = λ s n. 0;
+      handovers = λ s h. untold;
+    }
 
 -- ---- steps; `peer s` is the number under which station s knows the other one
 
@@ -182,28 +240,27 @@ module _ (peer : Side → ℕ) where
             (λ h. atTarget (peer s) (w .station s) e a taken (w .fixedFor (other s)) h (w .handovers (other s) h));
       }
 
--- "It arrives unaltered if it reaches the peer with the same Old ID" (its bearers are left open here, and so is all else); "in every other
--- kind all fields arrive as sent, with the sender's neighbour number in byte 1".
-abbrev pub asSent : ℕ → Record → Record
-asSent p m = altered (m .kind) p (m .number) (m .time) m
+-- other messages of one side under way
+abbrev pub withQueue : World → Side → List Envelope → World
+withQueue w s messages =
+    record { station = w .station; queue = sides s messages (w .queue (other s)); numbers = w .numbers; fixedFor = w .fixedFor; handovers = w .handovers }
 
-pub data Carries (p : ℕ) (m : Record) (e : Record) : Type 0 where
-  request : m .kind ≡ 1 → e .kind ≡ 1 → e .neighbour ≡ p → e .old .0 ≡ m .old .0 → Carries p m e
-  plain : (m .kind ≡ 1 → ⊥) → e ≡ asSent p m → Carries p m e
+module _ (peer : Side → ℕ) where
+  -- A station takes an event, its own or the oldest message to it.
+  pub record Acts (w : World) (s : Side) (e : Record) (a : Answer) (w' : World) : Type 0 where
+    pub range : InRange e
+    pub answers : Answers (w .station s) e a
+    pub taken : Option Envelope
+    pub rest : List Envelope
+    pub comes : Comes (peer s) e (w .queue (other s)) taken rest
+    pub becomes : w' ≡ act peer w s e a taken rest
 
--- A station's answer to an event is that of its step, whatever is lent beside the event: the bytes of a request's bearers, and room for
--- its verdicts.
-pub record Answers (x : Station) (e : Record) (a : Answer) : Type 0 where
-  pub bearers : List ℕ
-  pub room : ℕ
-  pub stepped : a ≡ stepOf x e bearers room
+  -- That, or a message is lost.
+  pub data Step (w : World) : World → Type 0 where
+    acts : {w' : World} (s : Side) (e : Record) (a : Answer) → Acts w s e a w' → Step w w'
+    loses : (s : Side) {rest : List Envelope} → Loses (w .queue s) rest → Step w (withQueue w s rest)
 
--- "Known by a number nobody else uses": a message event that has it is a message of the other station, and every other event comes at any
--- time. "In order": none that is under way with it is older. "At most once": then it is gone.
-pub data Comes (p : ℕ) (e : Record) (queue : List Envelope) : Option Envelope → List Envelope → Type 0 where
-  own : isMessage p e ≡ false → Comes p e queue none queue
-  take : (older : List Envelope) {m : Envelope} (younger : List Envelope) → older ≡ [] → queue ≡ older ++ (m ∷ younger) → Carries p (m .message) e
-      → Comes p e queue (some m) (older ++ younger)
+-- ---- runs, and the limit
 
 -- what holds of every entry of a list
 pub data All {T : Type 0} (P : T → Type 0) : List T → Type 0 where
@@ -220,52 +277,11 @@ Recent s n m = n .issuedCount < m .stamp s + limit
 abbrev pub Bounded : World → Type 0
 Bounded w = (r s : Side) → All (Recent s (w .numbers s)) (w .queue r)
 
--- other messages of one side under way
-abbrev pub withQueue : World → Side → List Envelope → World
-withQueue w s messages =
-    record { station = w .station; queue = sides s messages (w .queue (other s)); numbers = w .numbers; fixedFor = w .fixedFor; handovers = w .handovers }
-
--- A message "may be lost", wherever it stands.
-pub record Loses (w : World) (s : Side) (w' : World) : Type 0 where
-  pub older : List Envelope
-  pub lost : Envelope
-  pub younger : List Envelope
-  pub was : w .queue s ≡ older ++ (lost ∷ younger)
-  pub becomes : w' ≡ withQueue w s (older ++ younger)
-
--- "Two fresh stations", of any settings: nothing is under way, and there is no history.
-abbrev pub start : (Side → Station) → World
-start fresh =
-    record {
-      station = fresh;
-      queue = λ s. [];
-      numbers = λ s. record { issuedCount = 0; issueOf = λ i. 0; numberOf = λ h. 0 };
-      fixedFor = λ s n. 0;
-      handovers = λ s h. untold;
-    }
-
-pub record Fresh (x : Station) : Type 0 where
-  pub settings : Settings
-  pub born : x ≡ bornOf settings
-
 module _ (peer : Side → ℕ) where
-  -- A station takes an event, its own or the oldest message to it.
-  pub record Acts (w : World) (s : Side) (e : Record) (a : Answer) (w' : World) : Type 0 where
-    pub range : InRange e
-    pub answers : Answers (w .station s) e a
-    pub taken : Option Envelope
-    pub rest : List Envelope
-    pub comes : Comes (peer s) e (w .queue (other s)) taken rest
-    pub becomes : w' ≡ act peer w s e a taken rest
-
-  pub data Step (w w' : World) : Type 0 where
-    acts : (s : Side) (e : Record) (a : Answer) → Acts w s e a w' → Step w w'
-    loses : (s : Side) → Loses w s w' → Step w w'
-
   -- A world that two fresh stations reached, step by step, within the limit or not.
   pub data Course : World → Type 0 where
     begin : (fresh : Side → Station) → ((s : Side) → Fresh (fresh s)) → Course (start fresh)
-    next : {w w' : World} → Course w → Step w w' → Course w'
+    next : {w w' : World} → Course w → Step peer w w' → Course w'
 
   -- whether the limit is kept in each world of it
   abbrev pub Limited : {w : World} → Course w → Type 0
