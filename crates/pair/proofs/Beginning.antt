@@ -45,8 +45,8 @@ beginning peer stations f s =
       held-prepared = λ old n set admitted is was. absurd (empty (stations s) (f s) (peer s) old (inl (ap someOut was)));
       live = λ i is. absurd (empty (stations s) (f s) (peer s) i (inl is));
       ended = λ h asked. absurd (false≢true asked);
-      moved = λ h. (λ ended. absurd (nil≢cons ended), λ came. absurd (false≢true came));
-      came = λ h came. absurd (false≢true came);
+      moved = λ h. (λ ended. absurd (nil≢cons ended), λ released. absurd (false≢true released));
+      while-prepared = λ h released. absurd (false≢true released);
       failed = λ h ended. absurd (nil≢cons ended);
       arrived = λ h arrived. absurd (false≢true arrived);
     }

@@ -8,7 +8,7 @@ use Rattle.records.specs.declared.Record.{Record}
 use Rattle.table.specs.declared.Answer.{Answer}
 use Rattle.table.specs.declared.Station.{Station}
 use Rattle.promises.specs.Views.{issued, Laws, StepLaws}
-use Rattle.pair.specs.World.{Side, other, Numbers, nextIssue, Handover, Envelope, World, issuing, atSource, atTarget, fixing, letter, posted, Comes, All, Recent}
+use Rattle.pair.specs.World.{Side, other, Numbers, nextIssue, Handover, Envelope, World, issuing, atSource, atTarget, fixing, marked, posted, Comes, All, WithinLimit}
 
 -- The source and the number under which it knows the target, the target and the number under which it knows the source, the messages to
 -- the target (requests are among them) and those to the source (answers and releases), and the history of the source's handovers.
@@ -54,7 +54,7 @@ withQueues requests answers d =
 
 -- The limit is needed for requests and their answers (kinds 1 to 3) alone.
 abbrev pub Timely : Side → Numbers → Envelope → Type 0
-Timely s n m = 1 ≤ m .message .kind → m .message .kind ≤ 3 → Recent s n m
+Timely s n m = 1 ≤ m .message .kind → m .message .kind ≤ 3 → WithinLimit s n m
 
 module _ (s : Side) (d : Direction) (e : Record) (a : Answer) (taken : Option Envelope) (rest : List Envelope) (stamp : Side → ℕ) where
   -- The source takes an event, perhaps the oldest message to it. `fixed` is its own side's, as a target, and free here.
@@ -65,7 +65,7 @@ module _ (s : Side) (d : Direction) (e : Record) (a : Answer) (taken : Option En
         towards = d .towards;
         target = d .target;
         back = d .back;
-        requests = d .requests ++ posted (d .towards) (letter a (nextIssue (d .numbers)) taken fixed stamp);
+        requests = d .requests ++ posted (d .towards) (marked a (nextIssue (d .numbers)) taken fixed stamp);
         answers = rest;
         numbers = issuing (issued a) (d .numbers);
         fixedFor = d .fixedFor;
@@ -90,7 +90,7 @@ module _ (s : Side) (d : Direction) (e : Record) (a : Answer) (taken : Option En
         target = a .station;
         back = d .back;
         requests = rest;
-        answers = d .answers ++ posted (d .back) (letter a issue taken (d .fixedFor) stamp);
+        answers = d .answers ++ posted (d .back) (marked a issue taken (d .fixedFor) stamp);
         numbers = d .numbers;
         fixedFor = fixing (d .back) a taken (d .fixedFor);
         handovers = λ h. atTarget (d .back) (d .target) e a taken (d .fixedFor) h (d .handovers h);

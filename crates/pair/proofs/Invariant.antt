@@ -7,7 +7,7 @@ use mathlib.Core.List.{[], _∷_}
 use mathlib.Core.Logic.{_⊎_, _↔_}
 use Rattle.handover.specs.Events.{message}
 use Rattle.promises.specs.Views.{Outgoing, Prepared, Incoming, Held, someOut, out, held}
-use Rattle.pair.specs.World.{Side, Answered, Silent, Refused, Fixed, untold, Envelope, recordOf, All, limit}
+use Rattle.pair.specs.World.{Side, Answered, Silent, Refused, Fixed, noHistory, Envelope, recordOf, All, limit}
 use Rattle.pair.specs.Theorem.{isEnding}
 use Rattle.pair.proofs.Lists.{Pairs}
 use Rattle.pair.proofs.Ledger.{UsedOf, IssuedOf, LedgerOf}
@@ -77,7 +77,7 @@ module _ (s : Side) (d : Direction) where
   Ledger = LedgerOf (d .source) (d .numbers)
 
   abbrev pub New : Type 0
-  New = (h : ℕ) → d .numbers .issuedCount < h → d .handovers h ≡ untold
+  New = (h : ℕ) → d .numbers .issuedCount < h → d .handovers h ≡ noHistory
 
   -- under way
   abbrev pub Requests : Type 0
@@ -133,10 +133,10 @@ module _ (s : Side) (d : Direction) where
       → (someOut (recordFor d h) ≡ true) ⊎ ((z : ℕ) × (d .handovers h .endings ≡ z ∷ []) × (isEnding z ≡ true))
 
   abbrev pub Moved : Type 0
-  Moved = (h : ℕ) → (d .handovers h .endings ≡ 3 ∷ []) ↔ (d .handovers h .came ≡ true)
+  Moved = (h : ℕ) → (d .handovers h .endings ≡ 3 ∷ []) ↔ (d .handovers h .releasedWhilePrepared ≡ true)
 
-  abbrev pub Came : Type 0
-  Came = (h : ℕ) → d .handovers h .came ≡ true → d .handovers h .arrived ≡ true
+  abbrev pub WhilePrepared : Type 0
+  WhilePrepared = (h : ℕ) → d .handovers h .releasedWhilePrepared ≡ true → d .handovers h .arrived ≡ true
 
   abbrev pub Failed : Type 0
   Failed = (h : ℕ) → d .handovers h .endings ≡ 1 ∷ [] → d .handovers h .answer ≡ Refused
@@ -163,6 +163,6 @@ module _ (s : Side) (d : Direction) where
     pub live : Live
     pub ended : Ended
     pub moved : Moved
-    pub came : Came
+    pub while-prepared : WhilePrepared
     pub failed : Failed
     pub arrived : Arrived

@@ -52,7 +52,7 @@ module _ (s : Side) (d : Direction) (requests answers : List Envelope) (fewer-re
         live = inv .live;
         ended = inv .ended;
         moved = inv .moved;
-        came = inv .came;
+        while-prepared = inv .while-prepared;
         failed = inv .failed;
         arrived = inv .arrived;
       }

@@ -98,7 +98,7 @@ unaltered-needed =
 not-at-rest : (w : World) → isSettled peer w ≡ true → w .handovers A 1 ≡ history Refused true false 1 → (Settled peer w → AtRest peer w A) → ⊥
 not-at-rest w t handover rest =
     let once = rest (settled peer w t) .ended 1 (ap (λ (k : Handover). k .asked) handover) in
-    let other = once .else (ap (λ (k : Handover). k .arrived) handover) (ap (λ (k : Handover). k .came) handover) in
+    let other = once .release-missed (ap (λ (k : Handover). k .arrived) handover) (ap (λ (k : Handover). k .releasedWhilePrepared) handover) in
     let end : 1 ∷ [] ≡ once .end ∷ [] = sym (ap (λ (k : Handover). k .endings) handover) ∙ once .one in
     let one : once .end ≡ 1 = cc in
     false≢true (rw one at other)

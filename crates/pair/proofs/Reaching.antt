@@ -117,7 +117,7 @@ module _ (peer : Side → ℕ) where
 
   along : {w : World} (c : Course peer w) → Limited peer c → Good w
   along (begin stations new) limited = first stations new
-  along (next before step) limited = stepping (along before (limited .0)) step (λ r s. all-map (λ m recent low high. recent) (limited .1 r s))
+  along (next before step) limited = stepping (along before (limited .0)) step (λ r s. all-map (λ m within low high. within) (limited .1 r s))
 
   pub reached : {w : World} → Run peer w → Good w
   reached run = along (run .course) (run .limited)

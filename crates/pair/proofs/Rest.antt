@@ -15,7 +15,7 @@ use Rattle.promises.proofs.Shown.{shown}
 use Rattle.table.specs.declared.Answer.{Answer}
 use Rattle.table.specs.declared.Station.{Station}
 use Rattle.promises.specs.Views.{Outgoing, NotOut, Preparing, Prepared, Incoming, NotHeld, Held, someOut, someHeld, out, held, due, sent, to, isOtherEnding, Source, asks, readies, keeps, StepLaws}
-use Rattle.pair.specs.Theorem.{isEnding, EndsOnce, AsFixed, HeldAsFixed, OutgoingAsked, AtRest, Past, starts, Still, here, onward, Nine, Demand}
+use Rattle.pair.specs.Theorem.{isEnding, EndsOnce, AsFixed, HeldAsFixed, OutgoingAsked, AtRest, Past, starts, Still, here, onward, NoneDueAt, Demand}
 use Rattle.pair.specs.World.{Side, other, Refused, Envelope, World, recordOf, isMessage, act, Comes, All, nothing, Acts, Step, acts, loses}
 use Rattle.pair.proofs.Lists.{all-map}
 use Rattle.pair.proofs.Posting.{posted-to, all-posted}
@@ -64,16 +64,16 @@ module _ (s : Side) (d : Direction) (i : Invariant s d) (none : (j : ℕ) → ou
             is-ending = is;
             failed = failed;
             moved = (
-              λ three. let came = i .moved h .0 (rw three at one) in (i .came h came, came),
+              λ three. let released = i .moved h .0 (rw three at one) in (i .while-prepared h released, released),
               λ both. let moved = i .moved h .1 (both .1) in cc,
             );
-            else = λ arrived not-came.
+            release-missed = λ arrived not-released.
                 other-ending z is
                 (λ first.
                 let refused = failed first in
                 let fixed = i .arrived h arrived .2 in
                 clash (cc))
-                (λ third. true≢false (sym (i .moved h .0 (rw third at one)) ∙ not-came));
+                (λ third. true≢false (sym (i .moved h .0 (rw third at one)) ∙ not-released));
           }
 
 module _ (peer : Side → ℕ) where
@@ -191,7 +191,7 @@ module _ (peer : Side → ℕ) where
   -- ---- the clocks
 
   -- What a tick past every deadline answers with reply 9: none of them is there, nor comes later.
-  module _ {w w' : World} (good : Good peer w) (calm : Calm w) (s : Side) (t : ℕ) (past : Past peer w s t) (n : Nine peer s t w w') where
+  module _ {w w' : World} (good : Good peer w) (calm : Calm w) (s : Side) (t : ℕ) (past : Past peer w s t) (n : NoneDueAt peer s t w w') where
     settles-at : AtRest peer w' s
     settles-at =
         let before = calmly-all good calm (n .still) in
@@ -213,7 +213,7 @@ module _ (peer : Side → ℕ) where
         held-fixed = λ w run. held-as-fixed (reached peer run);
         outgoing-asked = λ w run. outgoing-asked (reached peer run);
         settles = λ w w' run x s.
-            settles-at (reached peer run) (λ r. rw (x .empty r) nothing) s (x .time s) (x .past s) (x .nine s);
+            settles-at (reached peer run) (λ r. rw (x .empty r) nothing) s (x .time s) (x .past s) (x .none-due s);
         settled = λ w run x s.
             let good = reached peer run in
             at-rest good s

@@ -74,17 +74,17 @@ fresh = record { course = begin (λ s. cases.freshly) (λ s. record { settings =
 
 -- what is told of it: what B answered, whether the UE arrived, whether its release came while A stood prepared, its one ending
 abbrev pub history : Answered → Bool → Bool → ℕ → Handover
-history answer arrived came end = record { asked = true; answer = answer; arrived = arrived; came = came; endings = end ∷ [] }
+history answer arrived released end = record { asked = true; answer = answer; arrived = arrived; releasedWhilePrepared = released; endings = end ∷ [] }
 
 -- This is told of it after a run that settles.
-pub record Ends (answer : Answered) (arrived came : Bool) (end : ℕ) : Type 0 where
+pub record Ends (answer : Answered) (arrived released : Bool) (end : ℕ) : Type 0 where
   pub quiet : World
   pub run : Run peer quiet
   pub world : World
   pub settles : Settles peer quiet world
   pub goes-on : Run peer world
   pub settled : Settled peer world
-  pub handover : world .handovers A 1 ≡ history answer arrived came end
+  pub handover : world .handovers A 1 ≡ history answer arrived released end
 
 -- a script, and ticks after it until none is due
 unfoldable pub outcome : List Move → List (Side × ℕ) → World
@@ -95,9 +95,9 @@ unfoldable pub comesOut : List Move → List (Side × ℕ) → Bool
 unfolding outcome playable isSettled
 comesOut script ts = playable peer both script && (maySettle peer (played peer both script) ts && isSettled peer (outcome script ts))
 
-module _ {answer : Answered} {arrived came : Bool} {end : ℕ} where
+module _ {answer : Answered} {arrived released : Bool} {end : ℕ} where
   ends : (script : List Move) (ts : List (Side × ℕ)) → comesOut script ts ≡ true
-      → outcome script ts .handovers A 1 ≡ history answer arrived came end → Ends answer arrived came end
+      → outcome script ts .handovers A 1 ≡ history answer arrived released end → Ends answer arrived released end
   unfolding outcome comesOut
   ends script ts t handover =
       let quiet = played peer both script in

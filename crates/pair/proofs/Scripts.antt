@@ -90,8 +90,8 @@ pub in-range : (e : Record) → below (fields e) ≡ true → InRange e
 in-range e t = let all : Below (fields e) = each (all-pass _ (λ i x. ltb-true (x .0) (x .1)) (fields e) t) in search needs
 
 -- neither side has issued 2,000 numbers since a message was sent
-abbrev pub recent : Side → Numbers → List Envelope → Bool
-recent s n = every (λ i m. ltb (n .issuedCount) (m .stamp s + limit))
+abbrev pub withinLimit : Side → Numbers → List Envelope → Bool
+withinLimit s n = every (λ i m. ltb (n .issuedCount) (m .stamp s + limit))
 
 abbrev pub toBoth : (Side → Bool) → Bool
 toBoth test = test A && test B
@@ -101,12 +101,12 @@ at-side test t A = both-true (test A) (test B) t .0
 at-side test t B = both-true (test A) (test B) t .1
 
 abbrev pub isBounded : World → Bool
-isBounded w = toBoth (λ r. toBoth (λ s. recent s (w .numbers s) (w .queue r)))
+isBounded w = toBoth (λ r. toBoth (λ s. withinLimit s (w .numbers s) (w .queue r)))
 
 pub bounded : (w : World) → isBounded w ≡ true → Bounded w
 bounded w t r s =
     all-pass _ (λ i m. ltb-true (w .numbers s .issuedCount) (m .stamp s + limit)) (w .queue r)
-    (at-side (λ x. recent x (w .numbers x) (w .queue r)) (at-side (λ y. toBoth (λ x. recent x (w .numbers x) (w .queue y))) t r) s)
+    (at-side (λ x. withinLimit x (w .numbers x) (w .queue r)) (at-side (λ y. toBoth (λ x. withinLimit x (w .numbers x) (w .queue y))) t r) s)
 
 module _ (peer : Side → ℕ) where
   abbrev pub canHear : Side → List ℕ → List Envelope → Bool

@@ -18,7 +18,7 @@ use Rattle.promises.specs.Views.{recordAt, named, dueOf, due, to}
 use Rattle.table.specs.declared.Answer.{Answer}
 use Rattle.handover.specs.declared.Entry.{Entry}
 use Rattle.table.specs.declared.Station.{Station}
-use Rattle.pair.specs.Theorem.{Past, Settled, Still, here, onward, Nine, Settles}
+use Rattle.pair.specs.Theorem.{Past, Settled, Still, here, onward, NoneDueAt, Settles}
 use Rattle.pair.specs.World.{Side, A, B, Envelope, World, Acts, acts, Run}
 use Rattle.pair.proofs.Scripts.{does, after, played, can, may, did, moves-on, isBounded, toBoth, at-side}
 
@@ -78,17 +78,17 @@ module _ (peer : Side → ℕ) where
       (empty (w .queue s) (both .0), due-by lastTime (w .station s) (both .1) (peer s))
 
   -- and none is due then
-  abbrev pub isNine : World → Side → Bool
-  isNine w s = eqb (atTick w s lastTime .outcome .reply) 9
+  abbrev pub isNoneDue : World → Side → Bool
+  isNoneDue w s = eqb (atTick w s lastTime .outcome .reply) 9
 
   unfoldable pub isSettled : World → Bool
   unfolding played
-  isSettled w = toBoth (isQuiet w) && toBoth (isNine w)
+  isSettled w = toBoth (isQuiet w) && toBoth (isNoneDue w)
 
   pub settled : (w : World) → isSettled w ≡ true → Settled peer w
   unfolding isSettled
   settled w t =
-      let parts = both-true (toBoth (isQuiet w)) (toBoth (isNine w)) t in
+      let parts = both-true (toBoth (isQuiet w)) (toBoth (isNoneDue w)) t in
       record {
         empty = λ s. quiet w (parts .0) s .0;
         tick = λ s. tick lastTime;
@@ -96,7 +96,7 @@ module _ (peer : Side → ℕ) where
         past = λ s. quiet w (parts .0) s .1;
         answer = λ s. atTick w s lastTime;
         answers = λ s. record { bearers = []; room = 256; stepped = refl };
-        none-due = λ s. eqb-true (atTick w s lastTime .outcome .reply) 9 (at-side (isNine w) (parts .1) s);
+        none-due = λ s. eqb-true (atTick w s lastTime .outcome .reply) 9 (at-side (isNoneDue w) (parts .1) s);
       }
 
   -- ---- ticks until none is due
@@ -123,11 +123,11 @@ module _ (peer : Side → ℕ) where
 
   -- the last tick finds none due
   abbrev pub mayEnd : World → Side → Bool
-  mayEnd w s = mayTick w s lastTime && isNine w s
+  mayEnd w s = mayTick w s lastTime && isNoneDue w s
 
-  nine : {w v w' : World} → Still peer w v → (s : Side) → mayEnd v s ≡ true → Still peer (ticked v s lastTime) w' → Nine peer s lastTime w w'
-  nine {v = v} still s t later =
-      let parts = both-true (mayTick v s lastTime) (isNine v s) t in
+  none-due-at : {w v w' : World} → Still peer w v → (s : Side) → mayEnd v s ≡ true → Still peer (ticked v s lastTime) w' → NoneDueAt peer s lastTime w w'
+  none-due-at {v = v} still s t later =
+      let parts = both-true (mayTick v s lastTime) (isNoneDue v s) t in
       record {
         before = v;
         still = still;
@@ -151,16 +151,16 @@ module _ (peer : Side → ℕ) where
   mayEndAfter w ((s, time) ∷ ts) = mayTick w s time && mayEndAfter (ticked w s time) ts
 
   -- So both clocks are ticked until none is due.
-  each-nine : {w v : World} → Still peer w v → (ts : List (Side × ℕ)) → mayEndAfter v ts ≡ true → (s : Side) → Nine peer s lastTime w (ended v ts)
-  each-nine {v = v} still [] t A =
+  each-none-due : {w v : World} → Still peer w v → (ts : List (Side × ℕ)) → mayEndAfter v ts ≡ true → (s : Side) → NoneDueAt peer s lastTime w (ended v ts)
+  each-none-due {v = v} still [] t A =
       let parts = both-true (mayEnd v A) (mayEnd (ticked v A lastTime) B) t in
-      nine still A (parts .0) (ticks-on here B lastTime (both-true (mayTick (ticked v A lastTime) B lastTime) (isNine (ticked v A lastTime) B) (parts .1) .0))
-  each-nine {v = v} still [] t B =
+      none-due-at still A (parts .0) (ticks-on here B lastTime (both-true (mayTick (ticked v A lastTime) B lastTime) (isNoneDue (ticked v A lastTime) B) (parts .1) .0))
+  each-none-due {v = v} still [] t B =
       let parts = both-true (mayEnd v A) (mayEnd (ticked v A lastTime) B) t in
-      nine (ticks-on still A lastTime (both-true (mayTick v A lastTime) (isNine v A) (parts .0) .0)) B (parts .1) here
-  each-nine {v = v} still ((s, time) ∷ ts) t r =
+      none-due-at (ticks-on still A lastTime (both-true (mayTick v A lastTime) (isNoneDue v A) (parts .0) .0)) B (parts .1) here
+  each-none-due {v = v} still ((s, time) ∷ ts) t r =
       let parts = both-true (mayTick v s time) (mayEndAfter (ticked v s time) ts) t in
-      each-nine (ticks-on still s time (parts .0)) ts (parts .1) r
+      each-none-due (ticks-on still s time (parts .0)) ts (parts .1) r
 
   abbrev pub maySettle : World → List (Side × ℕ) → Bool
   maySettle w ts = toBoth (isQuiet w) && mayEndAfter w ts
@@ -172,15 +172,15 @@ module _ (peer : Side → ℕ) where
         empty = λ s. quiet w (parts .0) s .0;
         time = λ s. lastTime;
         past = λ s. quiet w (parts .0) s .1;
-        nine = each-nine here ts (parts .1);
+        none-due = each-none-due here ts (parts .1);
       }
 
   -- What settles by ticks is a run still.
   ended-run : {w : World} → Run peer w → (ts : List (Side × ℕ)) → mayEndAfter w ts ≡ true → Run peer (ended w ts)
   ended-run {w} r [] t =
       let parts = both-true (mayEnd w A) (mayEnd (ticked w A lastTime) B) t in
-      let first = tick-runs r A lastTime (both-true (mayTick w A lastTime) (isNine w A) (parts .0) .0) in
-      tick-runs first B lastTime (both-true (mayTick (ticked w A lastTime) B lastTime) (isNine (ticked w A lastTime) B) (parts .1) .0)
+      let first = tick-runs r A lastTime (both-true (mayTick w A lastTime) (isNoneDue w A) (parts .0) .0) in
+      tick-runs first B lastTime (both-true (mayTick (ticked w A lastTime) B lastTime) (isNoneDue (ticked w A lastTime) B) (parts .1) .0)
   ended-run {w} r ((s, time) ∷ ts) t =
       let parts = both-true (mayTick w s time) (mayEndAfter (ticked w s time) ts) t in
       ended-run (tick-runs r s time (parts .0)) ts (parts .1)

@@ -15,7 +15,7 @@ use Rattle.records.specs.declared.Record.{Record}
 use Rattle.table.specs.declared.Answer.{Answer}
 use Rattle.promises.specs.Views.{Outgoing, NotOut, Preparing, Prepared, someOut, sent, ending, to, issued, Ends, Source, asks, readies, keeps}
 use Rattle.promises.proofs.Interface.{request-issues}
-use Rattle.pair.specs.World.{Side, Numbers, nextIssue, Fixed, Handover, untold, Envelope, recordOf, isPrepared, took, limit, Recent}
+use Rattle.pair.specs.World.{Side, Numbers, nextIssue, Fixed, Handover, noHistory, Envelope, recordOf, isPrepared, took, limit, WithinLimit}
 use Rattle.pair.proofs.Directions.{Direction, sourceAfter, SourceStep}
 use Rattle.pair.proofs.Invariant.{oldOf, newOf, setOf, outgoing, recordFor, Invariant}
 use Rattle.pair.proofs.Ledger.{not-again, in-use}
@@ -131,10 +131,10 @@ module _ {s : Side} {d : Direction} {e : Record} {a : Answer} {taken : Option En
 
   -- ---- the release of a handover comes while its record is prepared
 
-  abbrev pub comesNow : ℕ → Bool
-  comesNow h = took 5 h taken && isPrepared (recordFor d h)
+  abbrev pub releasedNow : ℕ → Bool
+  releasedNow h = took 5 h taken && isPrepared (recordFor d h)
 
-  pub prepared-now : (h : ℕ) → comesNow h ≡ true → (n : ℕ) × (set : ℕ) × (recordFor d h ≡ Prepared n set)
+  pub prepared-now : (h : ℕ) → releasedNow h ≡ true → (n : ℕ) × (set : ℕ) × (recordFor d h ≡ Prepared n set)
   prepared-now h t = is (recordFor d h) (both-true (took 5 h taken) (isPrepared (recordFor d h)) t .1)
     where
       is : (o : Outgoing) → isPrepared o ≡ true → (n : ℕ) × (set : ℕ) × (o ≡ Prepared n set)
@@ -181,7 +181,7 @@ module _ {s : Side} {d : Direction} {e : Record} {a : Answer} {taken : Option En
     -- ---- numbers
 
     -- The Old ID of a request or an answer is not issued while it is under way.
-    pub under-way : (m : Envelope) → 1 ≤ m .tag → d .numbers .issueOf (oldOf m) ≡ m .tag → m .stamp s < m .tag + limit → Recent s (after .numbers) m
+    pub under-way : (m : Envelope) → 1 ≤ m .tag → d .numbers .issueOf (oldOf m) ≡ m .tag → m .stamp s < m .tag + limit → WithinLimit s (after .numbers) m
         → after .numbers .issueOf (oldOf m) ≡ m .tag
     under-way m named latest stamped recent =
         not-again (d .numbers) (issued a) (x .step .issue) (x .laws) (inv .issued) (inv .ledger) (oldOf m) (omega arith) (omega arith) ∙ latest
@@ -201,7 +201,7 @@ module _ {s : Side} {d : Direction} {e : Record} {a : Answer} {taken : Option En
         omega (arith, own-record (d .numbers .numberOf h) (there .1) .0))
 
     -- A handover of which anything is told was issued.
-    told : (h : ℕ) → (d .handovers h ≡ untold → ⊥) → h ≤ d .numbers .issuedCount
+    told : (h : ℕ) → (d .handovers h ≡ noHistory → ⊥) → h ≤ d .numbers .issuedCount
     told h known =
         by-cases (leb h (d .numbers .issuedCount)) (leb-true h (d .numbers .issuedCount))
         (λ t. absurd (known (inv .new h (leb-false h (d .numbers .issuedCount) t))))

@@ -16,10 +16,10 @@ use Rattle.promises.specs.Views.{NotOut, Preparing, Prepared, someOut, sent, en
 use Rattle.pair.specs.World.{Side, nextIssue, Envelope, Fixed, Refused, isPrepared, recordOf, took}
 use Rattle.pair.specs.Theorem.{isEnding}
 use Rattle.pair.proofs.Directions.{Direction, SourceStep}
-use Rattle.pair.proofs.Invariant.{kindOf, oldOf, newOf, outgoing, recordFor, Released, Ended, Moved, Came, Failed, Invariant}
+use Rattle.pair.proofs.Invariant.{kindOf, oldOf, newOf, outgoing, recordFor, Released, Ended, Moved, WhilePrepared, Failed, Invariant}
 use Rattle.pair.proofs.Ledger.{number-kept}
 use Rattle.pair.proofs.Taking.{Taken, taken-of, took-of, first-of, carries-fields, carries-release}
-use Rattle.pair.proofs.SourceFacts.{record-there, record-is, after, in-table, start-latest, start-number, comesNow, prepared-now, goes, stays, gone, ended-stays, asked-told}
+use Rattle.pair.proofs.SourceFacts.{record-there, record-is, after, in-table, start-latest, start-number, releasedNow, prepared-now, goes, stays, gone, ended-stays, asked-told}
 
 module _ {s : Side} {d : Direction} {e : Record} {a : Answer} {taken : Option Envelope} {rest : List Envelope} {stamp : Side → ℕ} {fixed : ℕ → ℕ}
     (x : SourceStep s d e a taken rest stamp fixed) (inv : Invariant s d) where
@@ -75,7 +75,7 @@ module _ {s : Side} {d : Direction} {e : Record} {a : Answer} {taken : Option En
       let old : oldOf (t .first) ≡ d .numbers .numberOf h = sym (r .numbered) ∙ ap (d .numbers .numberOf) tag in
       x .step .takes (d .towards) (d .numbers .numberOf h) n set (rw (old, new) at (carries-release (t .carries) (r .receiver) (oldOf (t .first)) (newOf (t .first)) (r .word))) was
 
-  moves : (h : ℕ) → comesNow x h ≡ true → (after x .handovers h .endings ≡ 3 ∷ []) × (d .handovers h .arrived ≡ true)
+  moves : (h : ℕ) → releasedNow x h ≡ true → (after x .handovers h .endings ≡ 3 ∷ []) × (d .handovers h .arrived ≡ true)
   moves h t =
       let got = took-of 5 h (x .comes) (both-true (took 5 h taken) (isPrepared (recordFor d h)) t .0) in
       let r = first-of (got .0) (inv .releases) (got .0 .kind) in
@@ -89,13 +89,13 @@ module _ {s : Side} {d : Direction} {e : Record} {a : Answer} {taken : Option En
       going latest was now = rw (eq-eqb (d .numbers .issueOf (d .numbers .numberOf h)) h latest, was, now)
 
   -- What moves the record of a handover is its release.
-  released : (h : ℕ) → goes x h ≡ true → ending a ≡ 3 → comesNow x h ≡ true
+  released : (h : ℕ) → goes x h ≡ true → ending a ≡ 3 → releasedNow x h ≡ true
   released h t three = of (gone x inv h t .ends)
     where
       latest : d .numbers .issueOf (d .numbers .numberOf h) ≡ h
       latest = gone x inv h t .latest
 
-      of : Ends (d .towards) (d .numbers .numberOf h) (d .source) e a → comesNow x h ≡ true
+      of : Ends (d .towards) (d .numbers .numberOf h) (d .source) e a → releasedNow x h ≡ true
       of (failed one kind neighbour old) = absurd (omega arith)
       of (otherwise t) = absurd (false≢true (rw three at t))
       of (moved set is kind neighbour old was) =
@@ -115,16 +115,16 @@ module _ {s : Side} {d : Direction} {e : Record} {a : Answer} {taken : Option En
   pub moved-kept : Moved s (after x)
   moved-kept h = (
     λ is. by-cases (goes x h)
-        (λ t. rw (released h t (head-eq-of-cons-eq (sym (gone x inv h t .now) ∙ is))) (or-true (d .handovers h .came)))
+        (λ t. rw (released h t (head-eq-of-cons-eq (sym (gone x inv h t .now) ∙ is))) (or-true (d .handovers h .releasedWhilePrepared)))
         (λ t. rw (inv .moved h .0 (sym (stays x h t) ∙ is))),
     λ is. ⊎-elim
         (λ was. let ended = inv .moved h .1 was in stays x h (ended-stays x inv h 3 ended) ∙ ended)
         (λ now. moves h now .0)
-        (either-true (d .handovers h .came) (comesNow x h) is),
+        (either-true (d .handovers h .releasedWhilePrepared) (releasedNow x h) is),
   )
 
-  pub came-kept : Came s (after x)
-  came-kept h is = ⊎-elim (inv .came h) (λ now. moves h now .1) (either-true (d .handovers h .came) (comesNow x h) is)
+  pub while-prepared-kept : WhilePrepared s (after x)
+  while-prepared-kept h is = ⊎-elim (inv .while-prepared h) (λ now. moves h now .1) (either-true (d .handovers h .releasedWhilePrepared) (releasedNow x h) is)
 
   -- ---- failed
 

@@ -12,14 +12,14 @@ use Rattle.laws.proofs.Tests.{by-cases, refuted}
 use Rattle.records.specs.declared.Record.{Record}
 use Rattle.table.specs.declared.Answer.{Answer}
 use Rattle.promises.specs.Views.{someOut, sent, to, issued}
-use Rattle.pair.specs.World.{Side, nextIssue, Envelope, Answered, Fixed, Refused, letter, isMessage, posted}
+use Rattle.pair.specs.World.{Side, nextIssue, Envelope, Answered, Fixed, Refused, marked, isMessage, posted}
 use Rattle.pair.proofs.Lists.{all-map, all-both, all-front}
 use Rattle.pair.proofs.Directions.{Direction, Timely, SourceStep}
 use Rattle.pair.proofs.Invariant.{kindOf, oldOf, newOf, setOf, recordFor, Requested, Replied, Released, New, Requests, Once, Acknowledges, Failures, Releases, HeldFixed, Order, HeldAcknowledge, Invariant}
 use Rattle.pair.proofs.Ledger.{number-kept, count-grows}
 use Rattle.pair.proofs.Taking.{left, left-pairs}
 use Rattle.pair.proofs.Posting.{posted-to, all-posted, pairs-posted}
-use Rattle.pair.proofs.SourceFacts.{after, start-counts, start-latest, asked-stays, asked-now, comesNow, prepared-now, under-way, no-record, answer-told}
+use Rattle.pair.proofs.SourceFacts.{after, start-counts, start-latest, asked-stays, asked-now, releasedNow, prepared-now, under-way, no-record, answer-told}
 
 module _ {s : Side} {d : Direction} {e : Record} {a : Answer} {taken : Option Envelope} {rest : List Envelope} {stamp : Side → ℕ} {fixed : ℕ → ℕ}
     (x : SourceStep s d e a taken rest stamp fixed) (inv : Invariant s d) where
@@ -28,7 +28,7 @@ module _ {s : Side} {d : Direction} {e : Record} {a : Answer} {taken : Option En
   new-kept h later =
       let before = inv .new h (omega (arith, count-grows (d .numbers) (issued a))) in
       let gone = no-record x inv h (omega (arith, count-grows (d .numbers) (issued a))) in
-      rw (before, not-started, not-come gone, gone)
+      rw (before, not-started, not-released gone, gone)
     where
       not-started : (to 1 (d .towards) a && eqb h (nextIssue (d .numbers))) ≡ false
       not-started =
@@ -36,13 +36,13 @@ module _ {s : Side} {d : Direction} {e : Record} {a : Answer} {taken : Option En
           (λ t. rw (t, ne-eqb h (nextIssue (d .numbers)) (λ same. omega (arith, start-counts x t))))
           (λ t. rw t)
 
-      not-come : someOut (recordFor d h) ≡ false → comesNow x h ≡ false
-      not-come gone = refuted (comesNow x h) (λ t. true≢false (sym (ap someOut (prepared-now x h t .2)) ∙ gone))
+      not-released : someOut (recordFor d h) ≡ false → releasedNow x h ≡ false
+      not-released gone = refuted (releasedNow x h) (λ t. true≢false (sym (ap someOut (prepared-now x h t .2)) ∙ gone))
 
   -- ---- requests
 
   abbrev posting : Envelope
-  posting = letter a (nextIssue (d .numbers)) taken fixed stamp
+  posting = marked a (nextIssue (d .numbers)) taken fixed stamp
 
   -- A request that is sent is of the handover that it starts.
   request-belongs : sent a .kind ≡ 1 → posting .tag ≡ nextIssue (d .numbers)

@@ -11,7 +11,7 @@ use Rattle.pair.proofs.Invariant.{Invariant}
 use Rattle.pair.proofs.Ledger.{used-kept, issued-kept, ledger-kept}
 use Rattle.pair.proofs.SourceQueues.{new-kept, requests-kept, once-kept, acknowledges-kept, failures-kept, releases-kept, held-kept, order-kept, held-acknowledge-kept}
 use Rattle.pair.proofs.SourceTables.{prepared-kept, release-prepared-kept, held-prepared-kept, live-kept}
-use Rattle.pair.proofs.SourceHistory.{ended-kept, moved-kept, came-kept, failed-kept}
+use Rattle.pair.proofs.SourceHistory.{ended-kept, moved-kept, while-prepared-kept, failed-kept}
 
 pub source-turn : (s : Side) (d : Direction) (e : Record) (a : Answer) (taken : Option Envelope) (rest : List Envelope) (stamp : Side → ℕ) (fixed : ℕ → ℕ)
     → SourceStep s d e a taken rest stamp fixed → Invariant s d → Invariant s (sourceAfter s d e a taken rest stamp fixed)
@@ -35,7 +35,7 @@ source-turn s d e a taken rest stamp fixed x inv =
       live = live-kept x inv;
       ended = ended-kept x inv;
       moved = moved-kept x inv;
-      came = came-kept x inv;
+      while-prepared = while-prepared-kept x inv;
       failed = failed-kept x inv;
       arrived = inv .arrived;
     }

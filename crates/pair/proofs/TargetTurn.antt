@@ -14,11 +14,11 @@ use Rattle.records.specs.declared.Record.{Record}
 use Rattle.promises.proofs.Interface.{to-means}
 use Rattle.table.specs.declared.Answer.{Answer}
 use Rattle.promises.specs.Views.{Prepared, Incoming, NotHeld, Held, held, someHeld, sent, to}
-use Rattle.pair.specs.World.{Side, Answered, Refused, Fixed, Envelope, took, tagOf, arrivesFor, letter, isMessage}
+use Rattle.pair.specs.World.{Side, Answered, Refused, Fixed, Envelope, took, tagOf, arrivesFor, marked, isMessage}
 use Rattle.pair.proofs.Posting.{posted-to, all-posted, pairs-posted}
 use Rattle.pair.proofs.Taking.{took-of, left, left-pairs, left-behind}
 use Rattle.pair.proofs.Directions.{Direction, targetAfter, TargetStep}
-use Rattle.pair.proofs.Invariant.{kindOf, oldOf, newOf, setOf, outgoing, reserved, Requested, Replied, Released, New, Requests, Once, Acknowledges, Failures, Releases, HeldFixed, PreparedFixed, Order, ReleasePrepared, HeldAcknowledge, HeldPrepared, Came, Failed, Arrived, Invariant}
+use Rattle.pair.proofs.Invariant.{kindOf, oldOf, newOf, setOf, outgoing, reserved, Requested, Replied, Released, New, Requests, Once, Acknowledges, Failures, Releases, HeldFixed, PreparedFixed, Order, ReleasePrepared, HeldAcknowledge, HeldPrepared, WhilePrepared, Failed, Arrived, Invariant}
 use Rattle.pair.proofs.Lists.{all-map, all-both}
 use Rattle.pair.proofs.Targets.{granting, denying, arriving, RequestOf, HeldAfter, kept, made, request-of, request-taken, held-after, same-answer, answer-once}
 
@@ -33,7 +33,7 @@ module _ {s : Side} {d : Direction} {e : Record} {a : Answer} {taken : Option En
   after = targetAfter s d e a taken rest stamp issue
 
   abbrev posting : Envelope
-  posting = letter a issue taken (d .fixedFor) stamp
+  posting = marked a issue taken (d .fixedFor) stamp
 
   -- ---- what is told
 
@@ -63,8 +63,8 @@ module _ {s : Side} {d : Direction} {e : Record} {a : Answer} {taken : Option En
         told,
       )
 
-  came-kept : Came s after
-  came-kept h t = arrived-stays h (i .came h t)
+  while-prepared-kept : WhilePrepared s after
+  while-prepared-kept h t = arrived-stays h (i .while-prepared h t)
 
   failed-kept : Failed s after
   failed-kept h t = refused-stays h (i .failed h t)
@@ -128,7 +128,7 @@ module _ {s : Side} {d : Direction} {e : Record} {a : Answer} {taken : Option En
       record {
         named = rw tag (r .named);
         latest = ap (d .numbers .issueOf) (sym old) ∙ r .latest ∙ sym tag;
-        stamped = rw (tag, x .stamped) (r .recent);
+        stamped = rw (tag, x .stamped) (r .within);
         answered = ap (λ h. after .handovers h .answer) tag ∙ now;
       }
 
@@ -295,7 +295,7 @@ module _ {s : Side} {d : Direction} {e : Record} {a : Answer} {taken : Option En
         live = i .live;
         ended = i .ended;
         moved = i .moved;
-        came = came-kept;
+        while-prepared = while-prepared-kept;
         failed = failed-kept;
         arrived = arrived-kept;
       }

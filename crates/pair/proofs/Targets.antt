@@ -16,7 +16,7 @@ use Rattle.promises.proofs.Interface.{to-means}
 use Rattle.table.specs.declared.Answer.{Answer}
 use Rattle.table.specs.declared.Station.{Station}
 use Rattle.promises.specs.Views.{Held, held, sent, to, Shrinks, Grants, Denies, Arrives, Target, grants, denies, arrives, holds}
-use Rattle.pair.specs.World.{Side, Answered, Silent, Envelope, took, tagOf, limit, Recent}
+use Rattle.pair.specs.World.{Side, Answered, Silent, Envelope, took, tagOf, limit, WithinLimit}
 use Rattle.pair.proofs.Taking.{carries-request, taken-of, took-of, first-of}
 use Rattle.pair.proofs.Directions.{Direction, targetAfter, TargetStep}
 use Rattle.pair.proofs.Invariant.{kindOf, oldOf, reserved, Invariant}
@@ -56,7 +56,7 @@ pub record RequestOf (d : Direction) (old h : ℕ) : Type 0 where
   pub latest : d .numbers .issueOf old ≡ h
   pub counted : h ≤ d .numbers .issuedCount
   pub numbered : d .numbers .numberOf h ≡ old
-  pub recent : d .numbers .issuedCount < h + limit
+  pub within : d .numbers .issuedCount < h + limit
   pub asked : d .handovers h .asked ≡ true
   pub unanswered : d .handovers h .answer ≡ Silent
 
@@ -73,7 +73,7 @@ module _ {s : Side} {d : Direction} {e : Record} {a : Answer} {taken : Option En
       let found = took-of 1 h (x .comes) t in
       let head = found .0 .first in
       let requested = first-of (found .0) (i .requests) (found .0 .kind) in
-      let recent : Recent s (d .numbers) head = first-of (found .0) (x .requests-timely) (omega (arith, found .0 .kind)) (omega (arith, found .0 .kind)) in
+      let within : WithinLimit s (d .numbers) head = first-of (found .0) (x .requests-timely) (omega (arith, found .0 .kind)) (omega (arith, found .0 .kind)) in
       let old : e .old .0 ≡ oldOf head = carries-request (found .0 .carries) (found .0 .kind) in
       let tag : head .tag ≡ h = found .1 in
       let latest : d .numbers .issueOf (e .old .0) ≡ h = cc in
@@ -83,7 +83,7 @@ module _ {s : Side} {d : Direction} {e : Record} {a : Answer} {taken : Option En
         latest = latest;
         counted = rw latest at (issued .0);
         numbered = rw latest at (issued .1);
-        recent = rw (requested .stamped, tag) at recent;
+        within = rw (requested .stamped, tag) at within;
         asked = rw tag at (requested .asked);
         unanswered = rw tag at (requested .unanswered);
       }

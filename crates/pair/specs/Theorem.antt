@@ -26,8 +26,8 @@ pub record EndsOnce (k : Handover) : Type 0 where
   pub one : k .endings ≡ end ∷ []
   pub is-ending : isEnding end ≡ true
   pub failed : end ≡ 1 → k .answer ≡ Refused
-  pub moved : (end ≡ 3) ↔ ((k .arrived ≡ true) × (k .came ≡ true))
-  pub else : k .arrived ≡ true → k .came ≡ false → isOtherEnding end ≡ true
+  pub moved : (end ≡ 3) ↔ ((k .arrived ≡ true) × (k .releasedWhilePrepared ≡ true))
+  pub release-missed : k .arrived ≡ true → k .releasedWhilePrepared ≡ false → isOtherEnding end ≡ true
 
 -- a place of a station's table
 abbrev pub place : World → Side → ℕ → Entry
@@ -80,7 +80,7 @@ module _ (peer : Side → ℕ) where
     onward : {v w' : World} → Still w v → (x : Step peer v w') → starts x ≡ false → Still w w'
 
   -- A station's clock is "ticked until none is due": a tick gets reply 9.
-  pub record Nine (s : Side) (t : ℕ) (w w' : World) : Type 0 where
+  pub record NoneDueAt (s : Side) (t : ℕ) (w w' : World) : Type 0 where
     pub before : World
     pub still : Still w before
     pub event : Record
@@ -97,7 +97,7 @@ module _ (peer : Side → ℕ) where
     pub empty : Empty w
     pub time : Side → ℕ
     pub past : (s : Side) → Past w s (time s)
-    pub nine : (s : Side) → Nine s (time s) w w'
+    pub none-due : (s : Side) → NoneDueAt s (time s) w w'
 
   -- The same of one moment: nothing is under way, and at each station a tick past every deadline would get reply 9.
   pub record Settled (w : World) : Type 0 where

@@ -116,11 +116,11 @@ pub record Handover : Type 0 where
   pub asked : Bool
   pub answer : Answered
   pub arrived : Bool
-  pub came : Bool
+  pub releasedWhilePrepared : Bool
   pub endings : List ℕ
 
-abbrev pub untold : Handover
-untold = record { asked = false; answer = Silent; arrived = false; came = false; endings = [] }
+abbrev pub noHistory : Handover
+noHistory = record { asked = false; answer = Silent; arrived = false; releasedWhilePrepared = false; endings = [] }
 
 -- ---- what a step adds
 
@@ -160,7 +160,7 @@ atSource p x a taken n h k =
       asked = k .asked || (to 1 p a && eqb h (nextIssue n));
       answer = k .answer;
       arrived = k .arrived;
-      came = k .came || (took 5 h taken && isPrepared (recordOf n (out x p) h));
+      releasedWhilePrepared = k .releasedWhilePrepared || (took 5 h taken && isPrepared (recordOf n (out x p) h));
       endings = cond (someOut (recordOf n (out x p) h) && not (someOut (recordOf n (out (a .station) p) h))) (ending a ∷ k .endings) (k .endings);
     }
 
@@ -175,7 +175,7 @@ atTarget p y e a taken fixed h k =
       asked = k .asked;
       answer = cond (took 1 h taken && to 2 p a) (Fixed (sent a .new .0) (sent a .first)) (cond (took 1 h taken && to 3 p a) Refused (k .answer));
       arrived = k .arrived || arrivesFor p y e a fixed h;
-      came = k .came;
+      releasedWhilePrepared = k .releasedWhilePrepared;
       endings = k .endings;
     }
 
@@ -190,9 +190,9 @@ belongs issue taken fixed m =
     cond (eqb (m .kind) 1) issue
     (cond (eqb (m .kind) 2 || eqb (m .kind) 3) (tagOf taken) (cond (eqb (m .kind) 5) (fixed (m .new .0)) 0))
 
--- the message that a step sends, in its envelope
-abbrev pub letter : Answer → ℕ → Option Envelope → (ℕ → ℕ) → (Side → ℕ) → Envelope
-letter a issue taken fixed stamp = record { message = sent a; tag = belongs issue taken fixed (sent a); stamp = stamp }
+-- the message that a step sends, with its marks
+abbrev pub marked : Answer → ℕ → Option Envelope → (ℕ → ℕ) → (Side → ℕ) → Envelope
+marked a issue taken fixed stamp = record { message = sent a; tag = belongs issue taken fixed (sent a); stamp = stamp }
 
 -- ==== the world
 
@@ -213,7 +213,7 @@ start fresh =
       queue = λ s. [];
       numbers = λ s. record { issuedCount = 0; issueOf = λ i. 0; numberOf = λ h. 0 };
       fixedFor = λ s n. 0;
-      handovers = λ s h. untold;
+      handovers = λ s h. noHistory;
     }
 
 -- ---- steps; `peer s` is the number under which station s knows the other one
@@ -230,7 +230,7 @@ module _ (peer : Side → ℕ) where
         station = sides s (a .station) (w .station (other s));
         queue =
             sides s
-            (w .queue s ++ posted (peer s) (letter a (nextIssue (w .numbers s)) taken (w .fixedFor (other s)) (λ r. issuedAfter w s a r .issuedCount)))
+            (w .queue s ++ posted (peer s) (marked a (nextIssue (w .numbers s)) taken (w .fixedFor (other s)) (λ r. issuedAfter w s a r .issuedCount)))
             rest;
         numbers = issuedAfter w s a;
         fixedFor = sides s (w .fixedFor s) (fixing (peer s) a taken (w .fixedFor (other s)));
@@ -271,11 +271,11 @@ pub data All {T : Type 0} (P : T → Type 0) : List T → Type 0 where
 abbrev pub limit : ℕ
 limit = 2000
 
-abbrev pub Recent : Side → Numbers → Envelope → Type 0
-Recent s n m = n .issuedCount < m .stamp s + limit
+abbrev pub WithinLimit : Side → Numbers → Envelope → Type 0
+WithinLimit s n m = n .issuedCount < m .stamp s + limit
 
 abbrev pub Bounded : World → Type 0
-Bounded w = (r s : Side) → All (Recent s (w .numbers s)) (w .queue r)
+Bounded w = (r s : Side) → All (WithinLimit s (w .numbers s)) (w .queue r)
 
 module _ (peer : Side → ℕ) where
   -- A world that two fresh stations reached, step by step, within the limit or not.
