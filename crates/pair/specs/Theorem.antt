@@ -18,9 +18,9 @@ use Rattle.pair.specs.World.{Side, other, Handover, Refused, Fixed, Worl
 abbrev pub isEnding : ℕ → Bool
 isEnding z = eqb z 1 || eqb z 3 || isOtherEnding z
 
--- A handover has one ending "at the source": failed only if the target refused that very request; moved if and only if "the target saw
--- the UE arrive" and its release "came while the source stood prepared"; if the UE arrived and its release did not so come, then
--- cancelled, overtime, returned or reset.
+-- A handover has one ending "at the source", one of these: failed only if the target refused "that very request"; moved if and only if "the
+-- target saw the UE arrive" and its release "came while the source stood prepared"; if the UE arrived and its release did not so come,
+-- then cancelled, overtime, returned or reset.
 pub record EndsOnce (k : Handover) : Type 0 where
   pub end : ℕ
   pub one : k .endings ≡ end ∷ []
