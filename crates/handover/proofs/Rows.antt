@@ -10,12 +10,12 @@ use lib.Dec.{leb, eqb}
 use lib.ListN.{getD}
 use Rattle.laws.proofs.Tests.{by-cases, both-true, below, below-at, same-at}
 use Rattle.records.specs.declared.Record.{Record}
-use Rattle.records.specs.Record.{altered}
+use Rattle.records.specs.Record.{altered, zeros}
 use Rattle.fields.specs.Fields.{oneRecord, sortOf}
 use Rattle.fields.proofs.Sorts.{every-kind}
 use Rattle.handover.specs.declared.Decision.{Decision}
 use Rattle.handover.specs.declared.Entry.{Entry}
-use Rattle.handover.specs.Events.{key, about, message, silence, decision, refusal, listsFit, setFits, prepared, stored, serving, decide}
+use Rattle.handover.specs.Events.{key, about, actionOf, message, silence, decision, refusal, listsFit, setFits, prepared, stored, serving, decide}
 use Rattle.handover.specs.Numbers.{blank}
 use Rattle.handover.proofs.Keys.{keyed-means}
 
@@ -128,6 +128,36 @@ module _ (e : Record) (r : Entry) (deadline : ℕ) where
   due-rows-hold n kind =
       row-means (getD dueRows n dueRow) (same-at decided listed dueRows dueRow n refl refl)
       (kind ∙ sym (same-at (λ x. x .kind) (λ x. 15) dueRows dueRow n refl refl))
+
+-- ---- the table has these rows and no others
+
+-- whether a list has a row of a kind and a state that takes the event: one that does not refuse it with 6
+abbrev taking : ℕ → ℕ → List Row → Bool
+taking k st [] = false
+taking k st (x ∷ xs) = eqb (x .kind) k && eqb (x .state) st && not (eqb (x .does zeros blank 0 .reply) 6) || taking k st xs
+
+-- where the rules take an event: by a row; 1 and 9, a request and a start, in a free place; 7 and 14, resets, of an outgoing or held record
+abbrev pub taken : ℕ → ℕ → Bool
+taken k st =
+    taking k st rows || taking k st dueRows || (eqb k 1 || eqb k 9) && eqb st 0
+    || (eqb k 7 || eqb k 14) && leb 1 st && leb st 3
+
+-- whether two tests come out alike
+abbrev alike : Bool → Bool → Bool
+alike a b = cond a b (not b)
+
+alike-same : (a b : Bool) → alike a b ≡ true → a ≡ b
+alike-same true true t = refl
+alike-same true false t = sym t
+alike-same false true t = t
+alike-same false false t = refl
+
+-- A cell of the table is 0 exactly where they do not, by computation.
+pub cell-taken : (k st : ℕ) → k < 18 → st < 5 → eqb (actionOf k st) 0 ≡ not (taken k st)
+cell-taken k st kind state =
+    let cell : ℕ → ℕ → Bool = λ i j. alike (eqb (actionOf i j) 0) (not (taken i j)) in
+    alike-same (eqb (actionOf k st) 0) (not (taken k st))
+    (below-at 5 (cell k) st (below-at 18 (λ i. below 5 (cell i)) k refl kind) state)
 
 -- ---- no row is missing
 
