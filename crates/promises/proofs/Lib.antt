@@ -9,6 +9,7 @@ pub mod Making
 pub mod Neighbours
 pub mod Once
 pub mod Orderless
+pub mod Repeats
 pub mod Replies
 pub mod Rows
 pub mod Sent
