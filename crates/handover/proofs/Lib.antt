@@ -1,4 +1,5 @@
 pub mod Deciding
+pub mod Done
 pub mod Issuing
 pub mod Keys
 pub mod Resets

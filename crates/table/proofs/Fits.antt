@@ -1,5 +1,5 @@
 -- What an event makes of one record fits.
-use Prim.Native.Nat.{ℕ, _+_, _≤_}
+use Prim.Native.Nat.{ℕ, _≤_}
 use mathlib.Core.Path.{_≡_, refl}
 use mathlib.Core.Bool.{true, false, not, _&&_, true≢false, false≢true}
 use borrow.Author.Tests.{eqb-true, lt-ltb}
@@ -114,7 +114,7 @@ module _ (s : Station) (sound : Sound s) (e : Record) where
         state = omega arith;
         idle = λ f. absurd (false≢true f);
         id = issue-small s sound;
-        timer = lt-ltb 0 (s .clock + s .settings .prep) (omega (arith, sound .settings .prep));
+        timer = lt-ltb 0 (started e s .deadline) (omega (arith, sound .settings .prep));
         deadline = omega (arith, sound .settings .prep, sound .clock);
         units = λ _. refl;
         admitted = λ _. refl;
@@ -127,7 +127,7 @@ module _ (s : Station) (sound : Sound s) (e : Record) where
         state = omega arith;
         idle = λ f. absurd (false≢true f);
         id = issue-small s sound;
-        timer = lt-ltb 0 (s .clock + s .settings .guard) (omega (arith, sound .settings .guard));
+        timer = lt-ltb 0 (heldFor e a s .deadline) (omega (arith, sound .settings .guard));
         deadline = omega (arith, sound .settings .guard, sound .clock);
         units = λ i. absurd (true≢false i);
         admitted = λ o. absurd (false≢true o);

@@ -1,5 +1,6 @@
 pub mod Changes
 pub mod Counting
+pub mod Deadlines
 pub mod Finding
 pub mod Fits
 pub mod Parts

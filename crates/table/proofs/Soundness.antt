@@ -26,6 +26,7 @@ use Rattle.table.specs.Table.{find, at, put, add}
 use Rattle.table.proofs.Changes.{sound-at, sound-put, sound-add, sound-reset}
 use Rattle.table.proofs.Counting.{issue-small, issue-unused, own-once}
 use Rattle.handover.proofs.Deciding.{decide-units}
+use Rattle.handover.proofs.Keys.{request-about}
 use Rattle.table.proofs.Finding.{found-here, found-none}
 use Rattle.table.proofs.Fits.{fit-blank, decided-fits, decided-own, decided-held, started-fits, held-fits}
 use Rattle.fields.proofs.Forms.{time-within}
@@ -36,15 +37,9 @@ use Rattle.table.proofs.Tally.{total-none-of}
 
 -- ---- one step
 
--- A request is about the held records of its neighbour and its Old ID.
+-- A request that is not about a record is not one of a held record.
 held-about : (e : Record) (r : Entry) → e .kind ≡ 1 → about e r ≡ false → heldTimes (e .neighbour) (e .old .0) r ≡ 0
-held-about e r one other =
-    by-cases (isHeld r && eqb (r .neighbour) (e .neighbour) && eqb (r .old .0) (e .old .0))
-    (λ t.
-    let all = both-true (isHeld r && eqb (r .neighbour) (e .neighbour)) (eqb (r .old .0) (e .old .0)) t in
-    let both = both-true (isHeld r) (eqb (r .neighbour) (e .neighbour)) (all .0) in
-    absurd (true≢false (rw (one, eqb-true (r .state) 3 (both .0), both .1, all .1) at other)))
-    (λ t. rw t)
+held-about e r one other = rw (← request-about e r one, other)
 
 -- A decision about a record leaves the station sound, if the deadline that an acknowledge sets is one.
 sound-decided : (s : Station) → Sound s → (e : Record) (i deadline : ℕ) → i < 64 → (e .kind ≡ 2 → 1 ≤ deadline) → deadline ≤ 1000000600000 → Sound (put i (decide e (getD (s .entries) i blank) deadline .entry) s)
