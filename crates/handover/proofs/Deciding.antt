@@ -43,7 +43,7 @@ pub decide-as : (P : Decision → Type 0) (e : Record) (r : Entry) (deadline : �
     → P (refusal 6 r) → P (refusal 7 r)
     → (e .kind ≡ 2 → r .state ≡ 1 → listsFit r e ≡ true → P (decision 0 0 silence (prepared r e deadline)))
     → (r .state ≡ 3 → setFits r e ≡ true → P (decision 0 0 silence (stored r e)))
-    → P (decision 0 0 (message 4 (r .neighbour) (r .old .0) (r .new .0) (e .first) 0 0) r)
+    → (e .kind ≡ 17 → r .state ≡ 2 → setFits r e ≡ true → P (decision 0 0 (message 4 (r .neighbour) (r .old .0) (r .new .0) (e .first) 0 0) r))
     → (e .kind ≡ 11 → r .state ≡ 3 → P (decision 0 8 (message 5 (r .neighbour) (r .old .0) (r .new .0) 0 0 0) (serving r)))
     → (leaves (actionOf (e .kind) (r .state)) ≡ false → P (decision 0 (actionOf (e .kind) (r .state)) (lastWord e r) blank))
     → P (decide e r deadline)
@@ -59,7 +59,9 @@ decide-as P e r deadline six seven acknowledged status forwarded arrived ended =
     let there = stands 12 4 3 (e .kind) (r .state) refl refl w in
     rw (t, u, w) (by-cases (setFits r e) (λ v. rw v (status (there .1) v)) (λ v. rw v seven)))
     (λ w. by-cases (eqb action 13)
-    (λ x. rw (t, u, w, x) (by-cases (setFits r e) (λ v. rw v forwarded) (λ v. rw v seven)))
+    (λ x.
+    let there = stands 13 17 2 (e .kind) (r .state) refl refl x in
+    rw (t, u, w, x) (by-cases (setFits r e) (λ v. rw v (forwarded (there .0) (there .1) v)) (λ v. rw v seven)))
     (λ x. by-cases (eqb action 8)
     (λ y.
     let there = stands 8 11 3 (e .kind) (r .state) refl refl y in
@@ -74,7 +76,7 @@ pub decide-keeps : (P : Entry → Type 0) (e : Record) (r : Entry) (deadline : �
     → (r .state ≡ 3 → P (serving r))
     → P (decide e r deadline .entry)
 decide-keeps P e r deadline same ended acknowledged status arrived =
-    decide-as (λ d. P (d .entry)) e r deadline same same acknowledged status same (λ _ three. arrived three) (λ _. ended)
+    decide-as (λ d. P (d .entry)) e r deadline same same acknowledged status (λ _ _ _. same) (λ _ three. arrived three) (λ _. ended)
 
 -- No decision gives a record more units.
 pub decide-units : (e : Record) (r : Entry) (deadline : ℕ) → decide e r deadline .entry .units ≤ r .units

@@ -15,6 +15,7 @@ pub mod Rows
 pub mod Sent
 pub mod Shown
 pub mod Sides
+pub mod Statuses
 pub mod Strangers
 pub mod Ticks
 pub mod Turns

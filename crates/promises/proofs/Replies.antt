@@ -36,7 +36,7 @@ pub record Proper (s : Station) (e : Record) (a : Answer) : Type 0 where
 -- What is decided of a record is done, or one of the two refusals, which leave it as it was.
 decide-or : (P : Decision → Type 0) (e : Record) (r : Entry) (deadline : ℕ) → ((d : Decision) → d .reply ≡ 0 → P d) → P (refusal 6 r) → P (refusal 7 r) → P (decide e r deadline)
 decide-or P e r deadline done six seven =
-    decide-as P e r deadline six seven (λ _ _ _. done _ refl) (λ _ _. done _ refl) (done _ refl) (λ _ _. done _ refl) (λ _. done _ refl)
+    decide-as P e r deadline six seven (λ _ _ _. done _ refl) (λ _ _. done _ refl) (λ _ _ _. done _ refl) (λ _ _. done _ refl) (λ _. done _ refl)
 
 -- A place may be given the record that it has: the units in use are then what they were.
 put-same : (s : Station) (i : ℕ) → Sound s → i < 64 → put i (getD (s .entries) i blank) s ≡ s

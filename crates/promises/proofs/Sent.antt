@@ -51,7 +51,7 @@ decided-formed e r deadline formed b =
     let old = used-in-range 4095 (r .old .0) (b .1) in
     let new = used-in-range 4095 (r .new .0) (b .2) in
     decide-as (λ d. Formed (d .message)) e r deadline unsent unsent (λ _ _ _. unsent) (λ _ _. unsent)
-    (λ low high. rw (neighbour, old, new, used-in-range 65535 (e .first) (first-within e formed)))
+    (λ _ _ _ low high. rw (neighbour, old, new, used-in-range 65535 (e .first) (first-within e formed)))
     (λ _ _ low high. rw (neighbour, old, new))
     (λ _. last-formed e r b)
 

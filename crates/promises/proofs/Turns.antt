@@ -155,7 +155,7 @@ module _ (s : Station) (sound : Sound s) (e : Record) where
       (put-turned i place _ stays (other refl))
       (λ two one _. put-turned i place _ (prepares deadline formed two one (same-neighbour e r mine 2 two refl) (same-old e r mine 2 two refl)) (other refl))
       (λ _ _. put-turned i place _ stores (other refl))
-      (put-turned i place _ stays (other refl))
+      (λ _ _ _. put-turned i place _ stays (other refl))
       (λ eleven three. put-turned i place _ (serves three) (releases i place eleven three (arrival-new e r eleven mine) refl refl))
       (λ none. put-turned i place _ (ended e r mine (actionOf (e .kind) (r .state)) (finals (e .kind) (r .state)) none) (other (last-other e r)))
 

@@ -138,7 +138,7 @@ module _ (s : Station) (sound : Sound s) (e : Record) (bearers : List ℕ) where
       (record { units = omega arith; nothing = λ _. refl })
       (λ _ _ _. record { units = rw other (omega arith); nothing = λ _. refl })
       (λ _ _. record { units = rw other (omega arith); nothing = λ _. refl })
-      (record { units = rw other (omega arith); nothing = λ _. refl })
+      (λ _ _ _. record { units = rw other (omega arith); nothing = λ _. refl })
       (λ _ _. record { units = rw other (omega arith); nothing = λ f. absurd (true≢false f) })
       (λ gone. record { units = rw (leaves-all (actionOf (e .kind) (r .state)) gone, frees gone, other) (omega arith); nothing = λ f. absurd (true≢false f) })
 
