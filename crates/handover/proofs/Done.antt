@@ -8,7 +8,7 @@ use lib.Dec.{eqb}
 use Rattle.laws.proofs.Tests.{by-cases}
 use Rattle.records.specs.declared.Record.{Record}
 use Rattle.handover.specs.declared.Entry.{Entry}
-use Rattle.handover.specs.Events.{about, silence, decision, decide, listsFit, prepared}
+use Rattle.handover.specs.Events.{about, silence, decision, decide, listsFit, setFits, prepared, stored}
 use Rattle.handover.proofs.Keys.{keyed-by}
 use Rattle.handover.proofs.Rows.{rows-hold}
 
@@ -25,3 +25,11 @@ module _ (e : Record) (r : Entry) (deadline : ℕ) (mine : about e r ≡ true) (
       (λ t.
       let second : r .state ≡ 2 = omega (arith, keys .first, keys .last, eqb-false (r .state) 1 t) in
       absurd (omega (arith, rw (rows-hold e r deadline 1 two second) at done)))
+
+  -- A status: the record was held, and has that set.
+  pub status-done : e .kind ≡ 4 → (r .state ≡ 3) × (decide e r deadline ≡ decision 0 0 silence (stored r e))
+  status-done four =
+      let keys = keyed-by 4 e r four mine in
+      let three : r .state ≡ 3 = omega (arith, keys .first, keys .last) in
+      let row = rows-hold e r deadline 4 four three in
+      by-cases (setFits r e) (λ fits. (three, rw (row, fits, three))) (λ fails. absurd (omega (arith, rw (row, fails) at done)))

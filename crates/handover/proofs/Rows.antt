@@ -11,11 +11,12 @@ use lib.ListN.{getD}
 use Rattle.laws.proofs.Tests.{by-cases, both-true, below, below-at, same-at}
 use Rattle.records.specs.declared.Record.{Record}
 use Rattle.records.specs.Record.{altered, zeros}
+use Rattle.sets.specs.Sets.{union, disjoint, within}
 use Rattle.fields.specs.Fields.{oneRecord, sortOf}
 use Rattle.fields.proofs.Sorts.{every-kind}
 use Rattle.handover.specs.declared.Decision.{Decision}
 use Rattle.handover.specs.declared.Entry.{Entry}
-use Rattle.handover.specs.Events.{key, about, actionOf, message, silence, decision, refusal, listsFit, setFits, prepared, stored, serving, decide}
+use Rattle.handover.specs.Events.{key, about, actionOf, message, silence, decision, refusal, decide}
 use Rattle.handover.specs.Numbers.{blank}
 use Rattle.handover.proofs.Keys.{keyed-means}
 
@@ -40,6 +41,25 @@ says kind new reason r = message kind (r .neighbour) (r .old .0) new 0 0 reason
 abbrev untaken : Record → Entry → ℕ → Decision
 untaken e r deadline = refusal 6 r
 
+-- what is done if a set fits, and else refused with 7
+abbrev ifFits : Bool → Entry → Decision → Decision
+ifFits fits r done = cond fits done (refusal 7 r)
+
+-- a record by its fields: state, neighbour, Old, New, requested, admitted, status, units and deadline
+abbrev entry : ℕ → ℕ → ℕ → ℕ → ℕ → ℕ → ℕ → ℕ → ℕ → Entry
+entry state neighbour old new requested admitted status units deadline =
+    record {
+      state = state;
+      neighbour = neighbour;
+      old = record { 0 = old };
+      new = record { 0 = new };
+      requested = requested;
+      admitted = admitted;
+      status = status;
+      units = units;
+      deadline = deadline;
+    }
+
 -- the last row, which is also what is read beyond it
 abbrev pub lastRow : Row
 lastRow = row 17 1 untaken
@@ -47,14 +67,19 @@ lastRow = row 17 1 untaken
 -- the rows of the events about one record, the states being preparing 1, prepared 2, held 3 and serving 4
 abbrev pub rows : List Row
 rows =
-    -- 2: preparing and lists fit: prepared, deadline clock plus overall; they do not fit: 7; prepared: 6
-    row 2 1 (λ e r deadline. cond (listsFit r e) (decision 0 0 silence (prepared r e deadline)) (refusal 7 r))
+    -- 2: preparing, and the lists are disjoint, together the requested set, the admitted not empty: prepared with New, the admitted set and
+    -- the deadline; else 7; prepared: 6
+    row 2 1 (λ e r deadline.
+    ifFits (disjoint (e .first) (e .second) && eqb (union (e .first) (e .second)) (r .requested) && not (eqb (e .first) 0)) r
+    (decision 0 0 silence (entry 2 (r .neighbour) (r .old .0) (e .new .0) (r .requested) (e .first) (r .status) (r .units) deadline)))
     ∷ row 2 2 untaken
     -- 3: preparing ends, 1; prepared: 6
     ∷ row 3 1 (ends 1)
     ∷ row 3 2 untaken
-    -- 4: held and the set fits: stored; else 7
-    ∷ row 4 3 (λ e r deadline. cond (setFits r e) (decision 0 0 silence (stored r e)) (refusal 7 r))
+    -- 4: held, and the set is not empty and within the admitted: the status is that set; else 7
+    ∷ row 4 3 (λ e r deadline.
+    ifFits (not (eqb (e .first) 0) && within (e .first) (r .admitted)) r
+    (decision 0 0 silence (entry 3 (r .neighbour) (r .old .0) (r .new .0) (r .requested) (r .admitted) (e .first) (r .units) (r .deadline))))
     -- 5: prepared ends, 3; preparing: 6
     ∷ row 5 2 (ends 3)
     ∷ row 5 1 untaken
@@ -63,8 +88,9 @@ rows =
     -- 10: preparing or prepared sends 6, New if prepared, else absent, reason 1, and ends, 2
     ∷ row 10 1 (λ e r deadline. decision 0 2 (says 6 65535 1 r) blank)
     ∷ row 10 2 (λ e r deadline. decision 0 2 (says 6 (r .new .0) 1 r) blank)
-    -- 11: held becomes serving, sends 5 with both IDs, ending 8; serving: 6
-    ∷ row 11 3 (λ e r deadline. decision 0 8 (says 5 (r .new .0) 0 r) (serving r))
+    -- 11: held becomes serving, no deadline, sends 5 with both IDs, ending 8; serving: 6
+    ∷ row 11 3 (λ e r deadline.
+    decision 0 8 (says 5 (r .new .0) 0 r) (entry 4 (r .neighbour) (r .old .0) (r .new .0) (r .requested) (r .admitted) (r .status) (r .units) 0))
     ∷ row 11 4 untaken
     -- 12: prepared ends, 5, silently; preparing: 6
     ∷ row 12 2 (ends 5)
@@ -72,8 +98,10 @@ rows =
     -- 13: serving ends, 9; held: 6
     ∷ row 13 4 (ends 9)
     ∷ row 13 3 untaken
-    -- 17: prepared and the set fits: sends 4 with the set; else 7; preparing: 6
-    ∷ row 17 2 (λ e r deadline. cond (setFits r e) (decision 0 0 (message 4 (r .neighbour) (r .old .0) (r .new .0) (e .first) 0 0) r) (refusal 7 r))
+    -- 17: prepared, and the set is not empty and within the admitted: sends 4 with the set; else 7; preparing: 6
+    ∷ row 17 2 (λ e r deadline.
+    ifFits (not (eqb (e .first) 0) && within (e .first) (r .admitted)) r
+    (decision 0 0 (message 4 (r .neighbour) (r .old .0) (r .new .0) (e .first) 0 0) r))
     ∷ lastRow
     ∷ []
 
@@ -96,17 +124,7 @@ ofKind kind e = altered kind (e .neighbour) (e .number) (e .time) e
 
 abbrev inState : ℕ → Entry → Entry
 inState state r =
-    record {
-      state = state;
-      neighbour = r .neighbour;
-      old = r .old;
-      new = r .new;
-      requested = r .requested;
-      admitted = r .admitted;
-      status = r .status;
-      units = r .units;
-      deadline = r .deadline;
-    }
+    entry state (r .neighbour) (r .old .0) (r .new .0) (r .requested) (r .admitted) (r .status) (r .units) (r .deadline)
 
 module _ (e : Record) (r : Entry) (deadline : ℕ) where
   abbrev decided : Row → Decision

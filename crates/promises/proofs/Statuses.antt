@@ -1,12 +1,13 @@
 -- What a status that is sent says, and what one that is received leaves.
-use Prim.Native.Nat.{ℕ, _+_, _<_}
+use Prim.Native.Nat.{ℕ, _+_, _-_, _<_}
 use mathlib.Core.Path.{_≡_, refl}
 use mathlib.Core.Bool.{true, not, _&&_}
 use mathlib.Core.List.{List}
 use borrow.Author.Tests.{eqb-false, not-true}
 use native.Mathlib.Omega.{arith}
 use lib.Dec.{eqb}
-use lib.ListN.{getD}
+use lib.ListN.{getD, set}
+use Rattle.laws.proofs.Sums.{total-at}
 use Rattle.laws.proofs.Tests.{by-cases, both-true}
 use Rattle.records.specs.declared.Record.{Record}
 use Rattle.sets.specs.Sets.{member, within}
@@ -15,12 +16,16 @@ use Rattle.handover.specs.declared.Entry.{Entry}
 use Rattle.handover.specs.Events.{about, message, lastWord, setFits, decide}
 use Rattle.handover.specs.Numbers.{blank}
 use Rattle.handover.proofs.Deciding.{decide-as}
+use Rattle.handover.proofs.Done.{status-done}
+use Rattle.handover.proofs.Keys.{same-neighbour, same-old, status-new}
 use Rattle.table.specs.declared.Answer.{Answer}
 use Rattle.table.specs.declared.Station.{Station}
 use Rattle.table.specs.Sound.{Sound}
 use Rattle.table.specs.Step.{stepOf}
+use Rattle.table.proofs.Finding.{found-here}
 use Rattle.table.proofs.Parts.{Part, as-refusal, as-response, as-failure, as-grant, as-start, as-reset, as-idle, as-tick, as-event, part}
 use Rattle.table.proofs.Placing.{found-place, due-place}
+use Rattle.table.proofs.Resetting.{same-station}
 
 -- ---- sent
 
@@ -72,3 +77,64 @@ module _ (s : Station) (sound : Sound s) (e : Record) (bearers : List ℕ) (room
   -- A status that a step sends is one of a prepared record.
   pub status-sent : Status (stepOf s e bearers room)
   status-sent = part-status (part s e bearers room)
+
+-- ---- received
+
+-- a record with another status, and a station with another record at a place
+abbrev withStatus : ℕ → Entry → Entry
+withStatus set r =
+    record {
+      state = r .state;
+      neighbour = r .neighbour;
+      old = r .old;
+      new = r .new;
+      requested = r .requested;
+      admitted = r .admitted;
+      status = set;
+      units = r .units;
+      deadline = r .deadline;
+    }
+
+abbrev withRecord : ℕ → Entry → Station → Station
+withRecord j r s = record { entries = set (s .entries) j r; clock = s .clock; last = s .last; used = s .used; settings = s .settings }
+
+-- a status is stored: a record is held with its neighbour, Old and New, and has its set afterwards; all else is as it was
+pub record Stores (s : Station) (e : Record) (after : Station) : Type 0 where
+  pub place : ℕ
+  pub inside : place < 64
+  pub held : getD (s .entries) place blank .state ≡ 3
+  pub neighbour : getD (s .entries) place blank .neighbour ≡ e .neighbour
+  pub old : getD (s .entries) place blank .old .0 ≡ e .old .0
+  pub new : getD (s .entries) place blank .new .0 ≡ e .new .0
+  pub stored : after ≡ withRecord place (withStatus (e .first) (getD (s .entries) place blank)) s
+
+module _ (s : Station) (sound : Sound s) (e : Record) (bearers : List ℕ) (room : ℕ) (four : e .kind ≡ 4) where
+  part-stores : {a : Answer} → Part s e bearers room a → a .outcome .reply ≡ 0 → Stores s e (a .station)
+  part-stores (as-refusal n low _) zero = absurd (omega arith)
+  part-stores (as-response kind) zero = absurd (omega (arith, rw four at kind))
+  part-stores (as-failure n low _ _) zero = absurd (omega arith)
+  part-stores (as-grant i _ one _ _ _) zero = absurd (omega arith)
+  part-stores (as-start i _ nine _) zero = absurd (omega arith)
+  part-stores (as-reset kind) zero = absurd (omega (arith, rw four at kind))
+  part-stores (as-idle _ _) zero = absurd (omega arith)
+  part-stores (as-tick i _ fifteen _) zero = absurd (omega arith)
+  part-stores (as-event i _ _ found) zero =
+      let r = getD (s .entries) i blank in
+      let place = found-place s sound (about e) i found in
+      let mine = found-here (about e) s i found .1 in
+      let does = status-done e r (s .clock + s .settings .overall) mine zero four in
+      let units = total-at (λ x. x .units) (s .entries) i blank (omega (arith, sound .places)) in
+      let used : s .used - r .units + r .units ≡ s .used = omega (arith, sound .sum) in
+      record {
+        place = i;
+        inside = place;
+        held = does .0;
+        neighbour = same-neighbour e r mine 4 four refl;
+        old = same-old e r mine 4 four refl;
+        new = status-new e r four mine;
+        stored = rw (does .1) (same-station s refl used);
+      }
+
+  -- A status that is done is stored.
+  pub status-stored : stepOf s e bearers room .outcome .reply ≡ 0 → Stores s e (stepOf s e bearers room .station)
+  status-stored = part-stores (part s e bearers room)
