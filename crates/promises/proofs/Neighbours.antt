@@ -1,13 +1,14 @@
 -- What a neighbour's message changes, and what its answer depends on.
 use Prim.Native.Nat.{ℕ, _+_, _≤_}
 use mathlib.Core.Path.{_≡_, refl, _∙_, sym, ap}
-use mathlib.Core.Bool.{true, false, not, true≢false}
+use mathlib.Core.Bool.{true, false, not, _&&_, true≢false}
+use mathlib.Core.Logic.{_⊎_, ⊎-elim}
 use mathlib.Core.List.{List}
-use borrow.Author.Tests.{eqb-true, eqb-false}
-use lib.Dec.{eqb}
+use borrow.Author.Tests.{eqb-true, eqb-false, eq-eqb, le-leb}
+use lib.Dec.{leb, eqb}
 use lib.ListN.{getD}
 use lib.Seq.{getD-set-other}
-use Rattle.laws.proofs.Tests.{by-cases, both-true, refuted}
+use Rattle.laws.proofs.Tests.{by-cases, both-true, between, refuted}
 use Rattle.records.specs.declared.Record.{Record}
 use Rattle.handover.specs.declared.Entry.{Entry}
 use Rattle.table.specs.declared.Found.{Found}
@@ -18,11 +19,12 @@ use Rattle.fields.proofs.Sorts.{every-of-sort}
 use Rattle.fields.specs.Fields.{allOfNeighbour, sortOf, wellFormed}
 use Rattle.handover.specs.Numbers.{isFree, blank}
 use Rattle.table.specs.Step.{aboutOne, stepOf}
-use Rattle.table.specs.Table.{find, reset}
+use Rattle.table.specs.Table.{find, leftOf, reset}
 use Rattle.handover.proofs.Deciding.{stands}
 use Rattle.table.proofs.Finding.{found-here, set-each}
 use Rattle.table.proofs.Fits.{decided-keeps}
 use Rattle.handover.proofs.Keys.{isOf}
+use Rattle.handover.proofs.Resets.{reset-ends}
 use Rattle.table.proofs.Resetting.{reset-at}
 use Rattle.promises.proofs.Rows.{step-reset}
 use Rattle.handover.proofs.Senders.{concernsNeighbour, about-of}
@@ -92,6 +94,33 @@ module _ (s : Station) (e : Record) (bearers : List ℕ) (room : ℕ) (formed : 
   pub reset-keeps-others : sortOf (e .kind) ≡ allOfNeighbour → OthersKept (e .neighbour) s (stepOf s e bearers room .station)
   reset-keeps-others t =
       rw (step-reset s e bearers room formed t) (reset-keeps s e (every-of-sort allOfNeighbour concernsNeighbour refl refl (e .kind) t))
+
+  -- 7 and 14: all outgoing and held records of that neighbour end, and every other place is as it was.
+  module _ (reset : (e .kind ≡ 7) ⊎ (e .kind ≡ 14)) (j : ℕ) where
+    sort : sortOf (e .kind) ≡ allOfNeighbour
+    sort = ⊎-elim (λ seven. ap sortOf seven) (λ fourteen. ap sortOf fourteen) reset
+
+    left : getD (stepOf s e bearers room .station .entries) j blank ≡ leftOf e (getD (s .entries) j blank)
+    left = rw (step-reset s e bearers room formed sort) (reset-at e s j)
+
+    pub reset-ends-each : 1 ≤ getD (s .entries) j blank .state → getD (s .entries) j blank .state ≤ 3 → getD (s .entries) j blank .neighbour ≡ e .neighbour
+        → getD (stepOf s e bearers room .station .entries) j blank ≡ blank
+    reset-ends-each low high same =
+        let r = getD (s .entries) j blank in
+        left ∙ rw (reset-ends e r sort, le-leb 1 (r .state) low, le-leb (r .state) 3 high, eq-eqb (r .neighbour) (e .neighbour) same)
+
+    pub reset-leaves-each : (1 ≤ getD (s .entries) j blank .state → getD (s .entries) j blank .state ≤ 3 → getD (s .entries) j blank .neighbour ≡ e .neighbour → ⊥)
+        → getD (stepOf s e bearers room .station .entries) j blank ≡ getD (s .entries) j blank
+    reset-leaves-each other =
+        let r = getD (s .entries) j blank in
+        left ∙ rw (reset-ends e r sort, refuted (leb 1 (r .state) && leb (r .state) 3 && eqb (r .neighbour) (e .neighbour)) spared)
+      where
+        spared : (leb 1 (getD (s .entries) j blank .state) && leb (getD (s .entries) j blank .state) 3 && eqb (getD (s .entries) j blank .neighbour) (e .neighbour)) ≡ true → ⊥
+        spared t =
+            let r = getD (s .entries) j blank in
+            let both = both-true (leb 1 (r .state) && leb (r .state) 3) (eqb (r .neighbour) (e .neighbour)) t in
+            let timed = between 1 3 (r .state) (both .0) in
+            other (timed .0) (timed .1) (eqb-true (r .neighbour) (e .neighbour) (both .1))
 
 -- ---- what it depends on
 

@@ -25,7 +25,7 @@ use Rattle.table.specs.Sound.{Sound}
 use Rattle.table.specs.Step.{refused, stepOf}
 use Rattle.table.specs.Table.{dueFrom, soonest, at, put}
 use Rattle.table.proofs.Finding.{at-nothing, by-found}
-use Rattle.handover.proofs.Keys.{keyed-means}
+use Rattle.handover.proofs.Keys.{keyed-means, tick-about}
 use Rattle.promises.proofs.Rows.{early-step, tick-step}
 use Rattle.handover.proofs.Rows.{due-ends}
 use Rattle.table.proofs.Tally.{total-none-of, once-le}
@@ -71,6 +71,18 @@ sooner-asym : (a b : Entry) → sooner a b ≡ true → sooner b a ≡ false
 sooner-asym a b t =
     let p = strictly (a .deadline) (b .deadline) (own a) (own b) t in
     not-sooner (b .deadline) (a .deadline) (own b) (own a) (p .0) (p .1)
+
+-- a record has a lesser deadline than another, or the same and an own ID that is not greater
+abbrev pub Ahead : Entry → Entry → Type 0
+Ahead first r = (first .deadline < r .deadline) ⊎ ((first .deadline ≡ r .deadline) × (own first ≤ own r))
+
+-- So it is where the other is not sooner.
+first-of : (r first : Entry) → sooner r first ≡ false → Ahead first r
+first-of r first t =
+    let order = later (r .deadline) (first .deadline) (own r) (own first) t in
+    by-cases (eqb (first .deadline) (r .deadline))
+    (λ u. let same = eqb-true (first .deadline) (r .deadline) u in inr (same, order .1 (omega arith)))
+    (λ u. inl (omega (arith, order .0, eqb-false (first .deadline) (r .deadline) u)))
 
 -- ---- the walk over the table
 
@@ -180,13 +192,19 @@ module _ (e : Record) (kind : e .kind ≡ 15) where
       let some : 1 ≤ r .state = rw kind at (keys .first) in
       ne-eqb (r .state) 0 (λ z. omega arith)
 
+  -- An outgoing or held record whose deadline is not above the time is due.
+  timed-due : (r : Entry) → 1 ≤ r .state → r .state ≤ 3 → r .deadline ≤ e .time → due e r ≡ true
+  timed-due r low high late = rw (tick-about e r kind, le-leb 1 (r .state) low, le-leb (r .state) 3 high, le-leb (r .deadline) (e .time) late)
+
   none-due : due e blank ≡ false
   none-due = refuted (due e blank) (λ t. true≢false (busy-due blank t))
 
-  -- Where a tick finds a record, it is due, and no due record has a lesser deadline, or the same deadline and a lesser own ID.
+  -- Where a tick finds a record, it is outgoing or held and due; and of all such records it has the least deadline, and of those with
+  -- that deadline the least own ID.
   pub soonest-due : (s : Station) (i : ℕ) → soonest e s ≡ At i
       → (i < length (s .entries)) × (about e (getD (s .entries) i blank) ≡ true) × (getD (s .entries) i blank .deadline ≤ e .time)
-      × ((j : ℕ) → j < length (s .entries) → due e (getD (s .entries) j blank) ≡ true → sooner (getD (s .entries) j blank) (getD (s .entries) i blank) ≡ false)
+      × ((j : ℕ) → j < length (s .entries) → 1 ≤ getD (s .entries) j blank .state → getD (s .entries) j blank .state ≤ 3 → getD (s .entries) j blank .deadline ≤ e .time
+      → Ahead (getD (s .entries) i blank) (getD (s .entries) j blank))
   soonest-due s i found =
       let end = walked e busy-due (s .entries) (record { place = 0; entry = blank }) 0 i found in
       ⊎-elim
@@ -198,7 +216,7 @@ module _ (e : Record) (kind : e .kind ≡ 15) where
         omega (arith, on .2),
         rw there (both .0),
         rw there (leb-true (end .entry .deadline) (e .time) (both .1)),
-        λ j h d. rw there (end .first j h d),
+        λ j h low high late. rw there (first-of (getD (s .entries) j blank) (end .entry) (end .first j h (timed-due (getD (s .entries) j blank) low high late))),
       ))
       (end .stands)
 
