@@ -7,6 +7,7 @@ use borrow.Author.Needs.{needs}
 use borrow.Author.Tests.{ne-eqb}
 use store.Seg.{eqb-same}
 use native.Mathlib.Omega.{arith}
+use lib.Count.{ones, onesIn}
 use lib.Dec.{eqb}
 use lib.ListN.{length, getD, replicate}
 use Rattle.laws.specs.Sums.{total}
@@ -102,7 +103,7 @@ must c = c .seen
 
 -- All cases show what they must, by computation.
 all-shown : map shows cases ≡ map must cases
-unfolding runs bytesIn findFrom dueFrom anyOf issueFrom little recordOf recordsIn allBearers total those turnsFrom freeAt verdict sets.add sets.setOf
+unfolding ones onesIn runs bytesIn findFrom dueFrom anyOf issueFrom little recordOf recordsIn allBearers total those turnsFrom freeAt verdict sets.add sets.setOf
 all-shown = refl
 
 none-shown : shows noCase ≡ must noCase

@@ -21,9 +21,11 @@ pub record Event : Type 0 where
   pub event : Record
   pub bearers : List Record
 
--- what is seen of a step: its reply, the message that it sends, and the verdicts
+-- what is seen of a step: its reply and ending, how many bearers it admitted, the message that it sends, and the verdicts
 pub record Seen : Type 0 where
   pub reply : ℕ
+  pub ending : ℕ
+  pub count : ℕ
   pub message : Record
   pub verdicts : List ℕ
 
@@ -82,7 +84,13 @@ buffer e = replicate (length (e .bearers)) 9
 abbrev pub seenOf : Station → Event → Seen
 seenOf s e =
     let a = stepOf s (e .event) (bytesIn (e .bearers)) (length (buffer e)) in
-    record { reply = a .outcome .reply; message = a .outcome .message; verdicts = verdictsOf s (e .event) (bytesIn (e .bearers)) (buffer e) }
+    record {
+      reply = a .outcome .reply;
+      ending = a .outcome .ending;
+      count = a .outcome .count;
+      message = a .outcome .message;
+      verdicts = verdictsOf s (e .event) (bytesIn (e .bearers)) (buffer e);
+    }
 
 abbrev pub next : Station → Event → Station
 next s e = stepOf s (e .event) (bytesIn (e .bearers)) (length (buffer e)) .station
@@ -141,10 +149,14 @@ start = alone (message 9 3 0 0 32 0 0)
 abbrev pub cancel : ℕ → Event
 cancel old = alone (message 10 0 old 0 0 0 0)
 
--- what is seen; the acknowledge of the request, with New ID 0, and its failure
-abbrev pub seeing : ℕ → Record → List ℕ → Seen
-seeing reply sent verdicts = record { reply = reply; message = sent; verdicts = verdicts }
+-- what is seen: of a request, with no ending, how many bearers it admitted; of another event, with no verdicts, the ending
+abbrev pub judged : ℕ → ℕ → Record → List ℕ → Seen
+judged reply count sent verdicts = record { reply = reply; ending = 0; count = count; message = sent; verdicts = verdicts }
 
+abbrev pub seeing : ℕ → ℕ → Record → Seen
+seeing reply ending sent = record { reply = reply; ending = ending; count = 0; message = sent; verdicts = [] }
+
+-- the acknowledge of the request, with New ID 0, and its failure
 abbrev pub acknowledge : ℕ → ℕ → Record
 acknowledge admitted refused = message 2 3 7 0 admitted refused 0
 
@@ -160,42 +172,42 @@ asked bearers seen = record { wrapped = false; events = request bearers ∷ []; 
 abbrev pub cases : List Case
 cases =
     -- "bearers (ID 1, priority 5, 70 units), (2, 3, 60), (3, 5, 40): verdicts 4, 0, 0"
-    asked (bearer 1 9 5 70 ∷ bearer 2 9 3 60 ∷ bearer 3 9 5 40 ∷ []) (seeing 0 (acknowledge 12 2) (4 ∷ 0 ∷ 0 ∷ []))
+    asked (bearer 1 9 5 70 ∷ bearer 2 9 3 60 ∷ bearer 3 9 5 40 ∷ []) (judged 0 2 (acknowledge 12 2) (4 ∷ 0 ∷ 0 ∷ []))
     -- "IDs 5, 5, 6, all fitting: 1, 1, 0"
-    ∷ asked (bearer 5 9 1 10 ∷ bearer 5 9 1 10 ∷ bearer 6 9 1 10 ∷ []) (seeing 0 (acknowledge 64 32) (1 ∷ 1 ∷ 0 ∷ []))
+    ∷ asked (bearer 5 9 1 10 ∷ bearer 5 9 1 10 ∷ bearer 6 9 1 10 ∷ []) (judged 0 1 (acknowledge 64 32) (1 ∷ 1 ∷ 0 ∷ []))
     -- "one bearer of 100: 0"
-    ∷ asked (bearer 5 9 1 100 ∷ []) (seeing 0 (acknowledge 32 0) (0 ∷ []))
+    ∷ asked (bearer 5 9 1 100 ∷ []) (judged 0 1 (acknowledge 32 0) (0 ∷ []))
     -- "of 101: 4, reply 5"
-    ∷ asked (bearer 5 9 1 101 ∷ []) (seeing 5 (failure 5) (4 ∷ []))
+    ∷ asked (bearer 5 9 1 101 ∷ []) (judged 5 0 (failure 5) (4 ∷ []))
     -- "priority 0 and QCI 1 without information: 2"
-    ∷ asked (bearer 5 1 0 10 ∷ []) (seeing 5 (failure 5) (2 ∷ []))
+    ∷ asked (bearer 5 1 0 10 ∷ []) (judged 5 0 (failure 5) (2 ∷ []))
     -- "QCI 4 without: 3"
-    ∷ asked (bearer 5 4 1 10 ∷ []) (seeing 5 (failure 5) (3 ∷ []))
+    ∷ asked (bearer 5 4 1 10 ∷ []) (judged 5 0 (failure 5) (3 ∷ []))
     -- "QCI 5 without: 0"
-    ∷ asked (bearer 5 5 1 10 ∷ []) (seeing 0 (acknowledge 32 0) (0 ∷ []))
+    ∷ asked (bearer 5 5 1 10 ∷ []) (judged 0 1 (acknowledge 32 0) (0 ∷ []))
     -- "priority 16: reply 1"
-    ∷ asked (bearer 5 9 16 10 ∷ []) (seeing 1 silence (9 ∷ []))
+    ∷ asked (bearer 5 9 16 10 ∷ []) (judged 1 0 silence (9 ∷ []))
     -- "start at clock 0, tick 49: 9"
     ∷ record {
       wrapped = false;
       events = start ∷ tick 49 ∷ [];
-      seen = seeing 0 (message 1 3 0 0 32 0 0) [] ∷ seeing 9 silence [] ∷ [];
+      seen = seeing 0 0 (message 1 3 0 0 32 0 0) ∷ seeing 9 0 silence ∷ [];
     }
     -- "then tick 50: 0, cancel with New absent; the late acknowledge: 2"
     ∷ record {
       wrapped = false;
       events = start ∷ tick 49 ∷ tick 50 ∷ alone (message 2 3 0 0 32 0 0) ∷ [];
-      seen = seeing 0 (message 1 3 0 0 32 0 0) []
-          ∷ seeing 9 silence []
-          ∷ seeing 0 (message 6 3 0 65535 0 0 2) []
-          ∷ seeing 2 silence []
+      seen = seeing 0 0 (message 1 3 0 0 32 0 0)
+          ∷ seeing 9 0 silence
+          ∷ seeing 0 2 (message 6 3 0 65535 0 0 2)
+          ∷ seeing 2 0 silence
           ∷ [];
     }
     -- "last issued 4,095, own 0 in use: next is 1"
     ∷ record {
       wrapped = true;
       events = start ∷ [];
-      seen = seeing 0 (message 1 3 1 0 32 0 0) [] ∷ [];
+      seen = seeing 0 0 (message 1 3 1 0 32 0 0) ∷ [];
     }
     ∷ []
 
