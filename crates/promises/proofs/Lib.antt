@@ -1,4 +1,5 @@
 pub mod Answers
+pub mod Balance
 pub mod Bounds
 pub mod Cases
 pub mod Full

@@ -162,7 +162,7 @@ module _ (s : Station) (sound : Sound s) (e : Record) (bearers : List ℕ) where
       rw (single, ends) (ap (λ (f : Found). unitsAt f s) found))
 
   -- So a step changes the units in use by what it gives out and takes back, and by nothing else.
-  accounts : (room : ℕ) → Accounts (stepOf s e bearers room) e bearers s
+  pub accounts : (room : ℕ) → Accounts (stepOf s e bearers room) e bearers s
   accounts room = part-accounts (part s e bearers room)
 
 -- ---- the laws, of any answer that accounts for the units
@@ -177,10 +177,10 @@ module _ (a : Answer) (e : Record) (bearers : List ℕ) (s : Station) (account :
       omega (arith, account .units)
 
   -- A kind that ends no record takes nothing back, and one that is no request gives nothing out.
-  none-back : endsNone (e .kind) ≡ true → takenBack a e s ≡ 0
+  pub none-back : endsNone (e .kind) ≡ true → takenBack a e s ≡ 0
   none-back kind = rw kind (on-either (leavesAll (a .outcome .ending)) 0)
 
-  none-out : eqb (e .kind) 1 ≡ false → givenOut a e bearers s ≡ 0
+  pub none-out : eqb (e .kind) 1 ≡ false → givenOut a e bearers s ≡ 0
   none-out other = rw other (on-either (eqb (a .outcome .reply) 0) 0)
 
   granted-account : e .kind ≡ 1 → a .outcome .reply ≡ 0 → a .station .used ≡ s .used + admission (taken e bearers) s .units
