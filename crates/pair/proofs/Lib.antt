@@ -20,3 +20,5 @@ pub mod Scripts
 pub mod Settling
 pub mod Runs
 pub mod Needed
+pub mod BusyRuns
+pub mod Edge

@@ -1,12 +1,13 @@
 -- A script says what two stations do. The worlds that it goes through are computed with the real step, and one test over it, computed
 -- too, makes it steps of the world.
-use Prim.Native.Nat.{ℕ, _/_, _+_, _^_, _<_}
-use mathlib.Core.Path.{_≡_, refl, sym, _∙_}
+use Prim.Native.Nat.{ℕ, zero, suc, _/_, _+_, _^_, _<_}
+use mathlib.Core.Path.{_≡_, refl, sym, ap, _∙_}
 use mathlib.Core.Bool.{Bool, true, false, cond, not, _&&_, false≢true}
 use mathlib.Core.List.{List, [], _∷_}
 use mathlib.Core.Option.{none, some}
 use borrow.Author.Needs.{needs}
 use borrow.Author.Tests.{eqb-true, eq-eqb, ltb-true, not-true}
+use native.Mathlib.Omega.{arith}
 use lib.Count.{onesIn, ones}
 use lib.Dec.{eqb, ltb}
 use lib.ListN.{length}
@@ -24,15 +25,23 @@ use Rattle.table.specs.Step.{stepOf}
 use Rattle.table.specs.Table.{findFrom, dueFrom}
 use Rattle.promises.specs.Views.{named, out, held, due}
 use Rattle.pair.proofs.Lists.{all-pass}
-use Rattle.pair.specs.World.{Side, A, B, other, Numbers, Envelope, World, act, asSent, Carries, request, plain, isMessage, own, take, All, nothing, more, Bounded, withQueue, Acts, Step, acts, loses, next, Run, limit}
+use Rattle.pair.specs.World.{Side, A, B, other, Numbers, Envelope, World, act, asSent, Carries, request, plain, isMessage, own, take, All, nothing, more, Bounded, withQueue, Acts, Loses, Step, acts, loses, next, Run, limit}
 
 -- ---- what a side does
 
--- It takes an event of its own; it takes the oldest message to it, a request with these bearers; the oldest message to it is lost.
+-- It takes an event that is no message of the other side, with these bearers after it; it takes the oldest message to it, a request with
+-- these bearers; a message to it is lost, before which so many stay.
 pub data Move : Type 0 where
-  does : Side → Record → Move
+  gets : Side → Record → List ℕ → Move
   hears : Side → List ℕ → Move
-  misses : Side → Move
+  missesAfter : Side → ℕ → Move
+
+-- an event without bearers; the oldest message to it
+abbrev pub does : Side → Record → Move
+does s e = gets s e []
+
+abbrev pub misses : Side → Move
+misses s = missesAfter s 0
 
 -- the event that a message is when it is taken
 abbrev pub arriving : ℕ → List ℕ → Record → Record
@@ -43,6 +52,12 @@ carries p bearers m =
     by-cases (eqb (m .kind) 1) (λ t. rw t (request (eqb-true (m .kind) 1 t) refl refl refl))
     (λ t. rw t (plain (λ k. false≢true (sym t ∙ eq-eqb (m .kind) 1 k)) refl))
 
+-- what is under way without the message at a place
+abbrev pub without : ℕ → List Envelope → List Envelope
+without n [] = []
+without zero (m ∷ rest) = rest
+without (suc n) (m ∷ rest) = m ∷ without n rest
+
 module _ (peer : Side → ℕ) where
   abbrev pub hearing : World → Side → List ℕ → List Envelope → World
   hearing w s bearers [] = w
@@ -50,15 +65,14 @@ module _ (peer : Side → ℕ) where
       let e = arriving (peer s) bearers (m .message) in
       act peer w s e (stepOf (w .station s) e bearers 256) (some m) rest
 
-  abbrev pub missing : World → Side → List Envelope → World
-  missing w s [] = w
-  missing w s (m ∷ rest) = withQueue w (other s) rest
+  abbrev pub missing : World → Side → ℕ → List Envelope → World
+  missing w s n queue = withQueue w (other s) (without n queue)
 
   -- the world after a move
   abbrev pub after : World → Move → World
-  after w (does s e) = act peer w s e (stepOf (w .station s) e [] 256) none (w .queue (other s))
+  after w (gets s e bearers) = act peer w s e (stepOf (w .station s) e bearers 256) none (w .queue (other s))
   after w (hears s bearers) = hearing w s bearers (w .queue (other s))
-  after w (misses s) = missing w s (w .queue (other s))
+  after w (missesAfter s n) = missing w s n (w .queue (other s))
 
   -- and after all moves of a script; whatever a step says unfolds with it
   unfoldable pub played : World → List Move → World
@@ -108,20 +122,27 @@ bounded w t r s =
     all-pass _ (λ i m. ltb-true (w .numbers s .issuedCount) (m .stamp s + limit)) (w .queue r)
     (at-side (λ x. withinLimit x (w .numbers x) (w .queue r)) (at-side (λ y. toBoth (λ x. withinLimit x (w .numbers x) (w .queue y))) t r) s)
 
+-- The message at a place may be lost.
+lost-at : (n : ℕ) (queue : List Envelope) → n < length queue → Loses queue (without n queue)
+lost-at n [] h = absurd (omega arith)
+lost-at zero (m ∷ rest) h = record { older = []; lost = m; younger = rest; was = refl; left = refl }
+lost-at (suc n) (m ∷ rest) h =
+    let on = lost-at n rest (omega arith) in
+    record { older = m ∷ on .older; lost = on .lost; younger = on .younger; was = ap (m ∷_) (on .was); left = ap (m ∷_) (on .left) }
+
 module _ (peer : Side → ℕ) where
   abbrev pub canHear : Side → List ℕ → List Envelope → Bool
   canHear s bearers [] = false
   canHear s bearers (m ∷ rest) = below (fields (arriving (peer s) bearers (m .message)))
 
-  abbrev pub canMiss : List Envelope → Bool
-  canMiss [] = false
-  canMiss (m ∷ rest) = true
+  abbrev pub canMiss : ℕ → List Envelope → Bool
+  canMiss n queue = ltb n (length queue)
 
   -- "a message event with that number is taken from the queue and from nowhere else"
   abbrev pub can : World → Move → Bool
-  can w (does s e) = not (isMessage (peer s) e) && below (fields e)
+  can w (gets s e bearers) = not (isMessage (peer s) e) && below (fields e)
   can w (hears s bearers) = canHear s bearers (w .queue (other s))
-  can w (misses s) = canMiss (w .queue (other s))
+  can w (missesAfter s n) = canMiss n (w .queue (other s))
 
   -- A move that can be made is a step.
   heard : (w : World) (s : Side) (bearers : List ℕ) (queue : List Envelope) → w .queue (other s) ≡ queue → canHear s bearers queue ≡ true
@@ -139,26 +160,29 @@ module _ (peer : Side → ℕ) where
         becomes = refl;
       })
 
-  missed : (w : World) (s : Side) (queue : List Envelope) → w .queue (other s) ≡ queue → canMiss queue ≡ true → Step peer w (missing peer w s queue)
-  missed w s [] q t = absurd (false≢true t)
-  missed w s (m ∷ rest) q t = loses (other s) (record { older = []; lost = m; younger = rest; was = q; left = refl })
+  missed : (w : World) (s : Side) (n : ℕ) → canMiss n (w .queue (other s)) ≡ true → Step peer w (missing peer w s n (w .queue (other s)))
+  missed w s n t = loses (other s) (lost-at n (w .queue (other s)) (ltb-true n (length (w .queue (other s))) t))
 
-  pub did : (w : World) (s : Side) (e : Record) → can w (does s e) ≡ true → Acts peer w s e (stepOf (w .station s) e [] 256) (after peer w (does s e))
-  did w s e t =
+  pub got : (w : World) (s : Side) (e : Record) (bearers : List ℕ) → can w (gets s e bearers) ≡ true
+      → Acts peer w s e (stepOf (w .station s) e bearers 256) (after peer w (gets s e bearers))
+  got w s e bearers t =
       let both = both-true (not (isMessage (peer s) e)) (below (fields e)) t in
       record {
         range = in-range e (both .1);
-        answers = record { bearers = []; room = 256; stepped = refl };
+        answers = record { bearers = bearers; room = 256; stepped = refl };
         taken = none;
         rest = w .queue (other s);
         comes = own (not-true (isMessage (peer s) e) (both .0));
         becomes = refl;
       }
 
+  pub did : (w : World) (s : Side) (e : Record) → can w (does s e) ≡ true → Acts peer w s e (stepOf (w .station s) e [] 256) (after peer w (does s e))
+  did w s e = got w s e []
+
   pub step : (w : World) (m : Move) → can w m ≡ true → Step peer w (after peer w m)
-  step w (does s e) t = acts s e (stepOf (w .station s) e [] 256) (did w s e t)
+  step w (gets s e bearers) t = acts s e (stepOf (w .station s) e bearers 256) (got w s e bearers t)
   step w (hears s bearers) t = heard w s bearers (w .queue (other s)) refl t
-  step w (misses s) t = missed w s (w .queue (other s)) refl t
+  step w (missesAfter s n) t = missed w s n t
 
   -- One that may be made keeps the limit too, and so continues a run.
   abbrev pub may : World → Move → Bool
