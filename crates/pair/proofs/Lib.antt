@@ -21,4 +21,6 @@ pub mod Settling
 pub mod Runs
 pub mod Needed
 pub mod BusyRuns
+pub mod Spending
 pub mod Edge
+pub mod OrderAndLimit
