@@ -24,3 +24,4 @@ pub mod BusyRuns
 pub mod Spending
 pub mod Edge
 pub mod OrderAndLimit
+pub mod CanSettle

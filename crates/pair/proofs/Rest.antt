@@ -27,7 +27,7 @@ use Rattle.pair.proofs.Reaching.{on-sides, remain, answer-laws, AllTime
 use Rattle.pair.proofs.Targets.{granting, denying}
 
 -- A tick is no start.
-tick-starts-none : {p : ℕ} {x : Station} {e : Record} {a : Answer} → Source p x e a → e .kind ≡ 15 → to 1 p a ≡ false
+pub tick-starts-none : {p : ℕ} {x : Station} {e : Record} {a : Answer} → Source p x e a → e .kind ≡ 15 → to 1 p a ≡ false
 tick-starts-none (asks x) tick = absurd (omega arith)
 tick-starts-none (readies x) tick = x .silent
 tick-starts-none (keeps x) tick = x .silent

@@ -173,7 +173,7 @@ withSide w s x n =
       handovers = w .handovers;
     }
 
-mine : {T : Type 0} (s : Side) (here there : T) → sides s here there s ≡ here
+pub mine : {T : Type 0} (s : Side) (here there : T) → sides s here there s ≡ here
 mine A here there = refl
 mine B here there = refl
 
