@@ -56,12 +56,12 @@ both-ways =
 
 -- Two are asked for, and the acknowledge of the first is lost: the second alone is prepared and moves, the first is cancelled by the
 -- time to prepare.
+abbrev pub twoAsked : List Move
+twoAsked = starts ∷ starts ∷ takesIn 40 ∷ takesIn 40 ∷ unanswered ∷ answered ∷ arrivesAs B 1 ∷ answered ∷ ticks A 50 ∷ told ∷ []
+
 pub second-prepared : Shows (λ w. (w .handovers A 1 ≡ history (Fixed 0 1) false false 2) × (w .handovers A 2 ≡ movedAs 1))
 unfolding played playable isSettled
-second-prepared =
-    shows
-    (starts ∷ starts ∷ takesIn 40 ∷ takesIn 40 ∷ unanswered ∷ answered ∷ arrivesAs B 1 ∷ answered ∷ ticks A 50 ∷ told ∷ [])
-    refl (refl, refl)
+second-prepared = shows twoAsked refl (refl, refl)
 
 -- Of three requests under way that in the middle is lost: the first and the third move, the second is cancelled unheard.
 pub middle-lost : Shows (λ w. (w .handovers A 1 ≡ movedAs 0) × (w .handovers A 2 ≡ history Silent false false 2) × (w .handovers A 3 ≡ movedAs 1))

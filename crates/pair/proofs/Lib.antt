@@ -21,6 +21,7 @@ pub mod Settling
 pub mod Runs
 pub mod Needed
 pub mod BusyRuns
+pub mod WrittenOut
 pub mod Spending
 pub mod Edge
 pub mod OrderAndLimit
