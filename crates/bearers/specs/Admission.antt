@@ -93,6 +93,15 @@ judgeable bytes room = countable (length bytes) room && allBearers (recordsIn (l
 abbrev pub judgementOf : List ℕ → ℕ → ℕ → Judgement
 judgementOf bytes free room = cond (judgeable bytes room) (Given (admissionOf release8 free (bearersIn (length bytes / 32) bytes))) Malformed
 
+-- its number among the replies, and the count with it: "no bearer admitted", 5, else done, 0; "malformed", 1
+abbrev pub replyOf : Judgement → ℕ
+replyOf (Given a) = cond (eqb (a .admitted) 0) 5 0
+replyOf Malformed = 1
+
+abbrev pub countOf : Judgement → ℕ
+countOf (Given a) = a .count
+countOf Malformed = 0
+
 -- "Verdicts go to a lent buffer, one byte per bearer in request order, the rest untouched."
 abbrev pub verdictsIn : List ℕ → ℕ → List ℕ → List ℕ
 verdictsIn bytes free buffer =

@@ -1,7 +1,7 @@
 -- "Units in use are all units admitted since birth, less those of incoming records that have ended": over a whole run.
 use Prim.Native.Nat.{ℕ, suc, _+_, _<_}
 use mathlib.Core.Path.{_≡_, refl}
-use mathlib.Core.Bool.{true, false, cond, _&&_, and-false}
+use mathlib.Core.Bool.{false, cond, _&&_, and-false}
 use mathlib.Core.List.{List, [], _∷_}
 use borrow.Author.Tests.{eqb-true}
 use native.Mathlib.Omega.{arith}

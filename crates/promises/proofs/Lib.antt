@@ -6,6 +6,7 @@ pub mod Full
 pub mod Guests
 pub mod Impostors
 pub mod Interface
+pub mod Judged
 pub mod Making
 pub mod Neighbours
 pub mod Once

@@ -13,7 +13,7 @@ use Rattle.records.specs.declared.Record.{Record}
 use Rattle.sets.specs.Sets.{member, within}
 use Rattle.sets.proofs.Membership.{within-means}
 use Rattle.handover.specs.declared.Entry.{Entry}
-use Rattle.handover.specs.Events.{about, message, lastWord, setFits, decide}
+use Rattle.handover.specs.Events.{about, message, lastWord, decide}
 use Rattle.handover.specs.Numbers.{blank}
 use Rattle.handover.proofs.Deciding.{decide-as}
 use Rattle.handover.proofs.Done.{status-done}

@@ -1,7 +1,7 @@
 -- Every station that a fresh one reached is sound.
 use Prim.Native.Nat.{ℕ, _+_, _*_, _≤_, _<_}
 use mathlib.Core.Path.{_≡_, refl, sym}
-use mathlib.Core.Bool.{true, false, cond, _&&_, true≢false}
+use mathlib.Core.Bool.{true, false, cond, _&&_}
 use mathlib.Core.List.{List}
 use borrow.Author.Tests.{eqb-true, leb-true}
 use native.Mathlib.Omega.{arith}
@@ -18,7 +18,7 @@ use Rattle.table.specs.declared.Found.the-variants.{At, Nothing}
 use Rattle.table.specs.declared.Settings.{Settings}
 use Rattle.table.specs.declared.Station.{Station}
 use Rattle.handover.specs.Events.{about, decide}
-use Rattle.handover.specs.Numbers.{isFree, isHeld, own, blank}
+use Rattle.handover.specs.Numbers.{isFree, own, blank}
 use Rattle.table.specs.Reached.{Reached, born, stepped}
 use Rattle.table.specs.Sound.{Fit, Settled, Sound, ownTimes, heldTimes}
 use Rattle.table.specs.Step.{issue, stepOf, bornOf, fresh, isTimer, settled, least, started, heldFor, admission, taken, freeUnits}
