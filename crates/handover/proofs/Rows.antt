@@ -7,7 +7,7 @@ use mathlib.Core.List.{List, [], _∷_}
 use borrow.Author.Tests.{eqb-true, leb-true, le-leb}
 use native.Mathlib.Omega.{arith}
 use lib.Dec.{leb, eqb}
-use lib.ListN.{getD}
+use lib.ListN.{length, getD}
 use Rattle.laws.proofs.Tests.{by-cases, both-true, below, below-at, same-at}
 use Rattle.records.specs.declared.Record.{Record}
 use Rattle.records.specs.Record.{altered, zeros}
@@ -16,7 +16,7 @@ use Rattle.fields.specs.Fields.{oneRecord, sortOf}
 use Rattle.fields.proofs.Sorts.{every-kind}
 use Rattle.handover.specs.declared.Decision.{Decision}
 use Rattle.handover.specs.declared.Entry.{Entry}
-use Rattle.handover.specs.Events.{key, about, actionOf, message, silence, decision, refusal, decide}
+use Rattle.handover.specs.Events.{key, about, actions, actionOf, message, silence, decision, refusal, decide}
 use Rattle.handover.specs.Numbers.{blank}
 use Rattle.handover.proofs.Keys.{keyed-means}
 
@@ -171,11 +171,11 @@ alike-same false true t = t
 alike-same false false t = refl
 
 -- A cell of the table is 0 exactly where they do not, by computation.
-pub cell-taken : (k st : ℕ) → k < 18 → st < 5 → eqb (actionOf k st) 0 ≡ not (taken k st)
+pub cell-taken : (k st : ℕ) → k < length actions → st < 5 → eqb (actionOf k st) 0 ≡ not (taken k st)
 cell-taken k st kind state =
     let cell : ℕ → ℕ → Bool = λ i j. alike (eqb (actionOf i j) 0) (not (taken i j)) in
     alike-same (eqb (actionOf k st) 0) (not (taken k st))
-    (below-at 5 (cell k) st (below-at 18 (λ i. below 5 (cell i)) k refl kind) state)
+    (below-at 5 (cell k) st (below-at (length actions) (λ i. below 5 (cell i)) k refl kind) state)
 
 -- ---- no row is missing
 
