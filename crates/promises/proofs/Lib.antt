@@ -19,6 +19,7 @@ pub mod Shown
 pub mod Sides
 pub mod Statuses
 pub mod Strangers
+pub mod Taken
 pub mod Ticks
 pub mod Turns
 pub mod Units
