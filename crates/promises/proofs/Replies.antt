@@ -114,7 +114,7 @@ module _ (s : Station) (e : Record) where
         ends = λ _. (refl, refl);
         silent = λ _ _ _. refl;
       }
-  part-proper (as-tick i _ fifteen found) = done _ (due-ends e (getD (s .entries) i blank) 0 fifteen (soonest-due e fifteen s i found .1) .0)
+  part-proper (as-tick i _ fifteen found) = done _ (due-ends e (getD (s .entries) i blank) 0 fifteen (soonest-due e fifteen s i found .mine) .0)
   part-proper (as-event i _ _ found) = carried-proper i (s .clock + s .settings .overall) (λ sound. found-place s sound (about e) i found)
 
 -- ---- the step

@@ -11,7 +11,7 @@ use lib.ListN.{length, getD, set}
 use lib.Seq.{getD-set-same, getD-set-other}
 use Rattle.laws.proofs.Sums.{total-le, total-set, total-each}
 use Rattle.laws.specs.Sums.{total}
-use Rattle.laws.proofs.Tests.{by-cases, both-true, neither, refuted}
+use Rattle.laws.proofs.Tests.{by-cases, both-true, between, neither, refuted}
 use Rattle.records.specs.declared.Record.{Record}
 use Rattle.table.specs.declared.Answer.{Answer}
 use Rattle.table.specs.declared.Best.{Best}
@@ -185,6 +185,16 @@ unfoldable pub ticks : ℕ → Record → Station → Station
 ticks zero e s = s
 ticks (suc n) e s = ticks n e (stepOf s e [] 0 .station)
 
+-- "of the records with deadline not above it, the least deadline, then least own ID": a place at which the tick's record stands; it is
+-- outgoing or held, and due, and ahead of every other that is
+pub record Soonest (e : Record) (s : Station) (i : ℕ) : Type 0 where
+  pub place : i < length (s .entries)
+  pub mine : about e (getD (s .entries) i blank) ≡ true
+  pub timed : (1 ≤ getD (s .entries) i blank .state) × (getD (s .entries) i blank .state ≤ 3)
+  pub late : getD (s .entries) i blank .deadline ≤ e .time
+  pub first : (j : ℕ) → j < length (s .entries) → 1 ≤ getD (s .entries) j blank .state → getD (s .entries) j blank .state ≤ 3
+      → getD (s .entries) j blank .deadline ≤ e .time → Ahead (getD (s .entries) i blank) (getD (s .entries) j blank)
+
 module _ (e : Record) (kind : e .kind ≡ 15) where
   busy-due : (r : Entry) → due e r ≡ true → isFree r ≡ false
   busy-due r t =
@@ -199,12 +209,8 @@ module _ (e : Record) (kind : e .kind ≡ 15) where
   none-due : due e blank ≡ false
   none-due = refuted (due e blank) (λ t. true≢false (busy-due blank t))
 
-  -- Where a tick finds a record, it is outgoing or held and due; and of all such records it has the least deadline, and of those with
-  -- that deadline the least own ID.
-  pub soonest-due : (s : Station) (i : ℕ) → soonest e s ≡ At i
-      → (i < length (s .entries)) × (about e (getD (s .entries) i blank) ≡ true) × (getD (s .entries) i blank .deadline ≤ e .time)
-      × ((j : ℕ) → j < length (s .entries) → 1 ≤ getD (s .entries) j blank .state → getD (s .entries) j blank .state ≤ 3 → getD (s .entries) j blank .deadline ≤ e .time
-      → Ahead (getD (s .entries) i blank) (getD (s .entries) j blank))
+  -- Where a tick finds a record, it is the soonest.
+  pub soonest-due : (s : Station) (i : ℕ) → soonest e s ≡ At i → Soonest e s i
   soonest-due s i found =
       let end = walked e busy-due (s .entries) (record { place = 0; entry = blank }) 0 i found in
       ⊎-elim
@@ -212,12 +218,15 @@ module _ (e : Record) (kind : e .kind ≡ 15) where
       (λ on.
       let same : on .0 ≡ i = omega (arith, on .1) in
       let there : getD (s .entries) i blank ≡ end .entry = ap (λ (n : ℕ). getD (s .entries) n blank) (sym same) ∙ on .3 in
-      let both = both-true (about e (end .entry)) (leb (end .entry .deadline) (e .time)) (on .4) in (
-        omega (arith, on .2),
-        rw there (both .0),
-        rw there (leb-true (end .entry .deadline) (e .time) (both .1)),
-        λ j h low high late. rw there (first-of (getD (s .entries) j blank) (end .entry) (end .first j h (timed-due (getD (s .entries) j blank) low high late))),
-      ))
+      let both = both-true (about e (end .entry)) (leb (end .entry .deadline) (e .time)) (on .4) in
+      record {
+        place = omega (arith, on .2);
+        mine = rw there (both .0);
+        timed = rw there (between 1 3 (end .entry .state) (sym (tick-about e (end .entry) kind) ∙ both .0));
+        late = rw there (leb-true (end .entry .deadline) (e .time) (both .1));
+        first = λ j h low high late.
+            rw there (first-of (getD (s .entries) j blank) (end .entry) (end .first j h (timed-due (getD (s .entries) j blank) low high late)));
+      })
       (end .stands)
 
   -- Where it finds none, none is due.
@@ -230,7 +239,7 @@ module _ (e : Record) (kind : e .kind ≡ 15) where
       pub tick-one : (i : ℕ) → soonest e s ≡ At i → (stepOf s e bearers room .outcome .reply ≡ 0) × (stepOf s e bearers room .station ≡ put i blank (at (e .time) s))
       tick-one i found =
           let r = getD (s .entries) i blank in
-          let ended = due-ends e r 0 kind (soonest-due s i found .1) in
+          let ended = due-ends e r 0 kind (soonest-due s i found .mine) in
           let does = tick-step s e bearers room formed kind late (At i) found in
           (rw does (ended .0), rw does (ap (λ (x : Entry). put i x (at (e .time) s)) (ended .1)))
 
@@ -239,7 +248,7 @@ module _ (e : Record) (kind : e .kind ≡ 15) where
           × ((j : ℕ) → (j ≡ i → ⊥) → getD (stepOf s e bearers room .station .entries) j blank ≡ getD (s .entries) j blank)
       tick-others i found =
           rw (tick-one i found .1)
-          (getD-set-same (s .entries) i blank blank (soonest-due s i found .0), λ j other. getD-set-other (s .entries) i j blank blank other)
+          (getD-set-same (s .entries) i blank blank (soonest-due s i found .place), λ j other. getD-set-other (s .entries) i j blank blank other)
 
       -- One that finds none has reply 9, and only the clock changes.
       pub tick-none : soonest e s ≡ Nothing → stepOf s e bearers room ≡ refused 9 (at (e .time) s)
@@ -256,9 +265,9 @@ module _ (e : Record) (kind : e .kind ≡ 15) where
           (λ i found.
           let d = soonest-due s i found in
           let one = tick-one i found in
-          let counted : dueTimes e (getD (s .entries) i blank) ≡ 1 = rw (d .1, le-leb (getD (s .entries) i blank .deadline) (e .time) (d .2)) in
+          let counted : dueTimes e (getD (s .entries) i blank) ≡ 1 = rw (d .mine, le-leb (getD (s .entries) i blank .deadline) (e .time) (d .late)) in
           let freed : dueTimes e blank ≡ 0 = rw none-due in
-          let fewer : total (dueTimes e) (set (s .entries) i blank) + 1 ≡ dues e s = omega (arith, total-set (dueTimes e) (s .entries) i blank blank (d .0)) in
+          let fewer : total (dueTimes e) (set (s .entries) i blank) + 1 ≡ dues e s = omega (arith, total-set (dueTimes e) (s .entries) i blank blank (d .place)) in
           (rw (one .1), inl (one .0, rw (one .1) fewer)))
 
     -- A tick with another reply than 8 is at a time not before the clock.

@@ -170,7 +170,7 @@ module _ (s : Station) (sound : Sound s) (e : Record) (bearers : List ℕ) (room
   turn-of (as-idle _ _) = turns (record { last = refl; change = λ j h. stays; says = other refl })
   turn-of (as-tick i formed fifteen found) =
       -- the clock is no matter here
-      let t = decided-turned (at (e .time) s) (sound-at s sound (e .time) (time-within e formed)) e formed i 0 (due-place s sound e i found) (soonest-due e fifteen s i found .1) in
+      let t = decided-turned (at (e .time) s) (sound-at s sound (e .time) (time-within e formed)) e formed i 0 (due-place s sound e i found) (soonest-due e fifteen s i found .mine) in
       turns (record { last = t .last; change = t .change; says = t .says })
   turn-of (as-event i formed _ found) =
       turns (decided-turned s sound e formed i (s .clock + s .settings .overall) (found-place s sound (about e) i found) (found-here (about e) s i found .1))
