@@ -37,7 +37,7 @@ each-formed (r ∷ rs) t =
 module _ (bs : List Bearer) (s : Survey) (known : Surveyed bs s) where
   -- A bearer whose ID occurs more than once has verdict 1.
   settled-repeated : (set : ℕ) (b : Bearer) → b .id < 16 → 1 < occurs (b .id) bs → settledBy s set b ≡ 1
-  settled-repeated set b small more = rw (known .counted (b .id) small, lt-ltb 1 (occurs (b .id) bs) more)
+  settled-repeated set b small more = rw (known .again (b .id) small, lt-ltb 1 (occurs (b .id) bs) more)
 
   module _ (each : Each Formed bs) where
     -- The scratch table's turns, sorted, are those of the request.
@@ -51,7 +51,7 @@ module _ (bs : List Bearer) (s : Survey) (known : Surveyed bs s) where
         of-only xs = those-wider test (alone bs) xs (λ b t. le-leb (occurs (b .id) bs) 1 (turn-once release8 bs b t .0))
 
         first : Each (λ b. clear s b ≡ hasTurn release8 bs b) (firstsOf s)
-        first = each-map _ _ (firstsOf s) (λ b small. rw (known .counted (b .id) small)) (firsts-small s (known .tidy))
+        first = each-map _ _ (firstsOf s) (λ b small. rw (known .again (b .id) small)) (firsts-small s (known .tidy))
 
     module _ (free : ℕ) where
       -- the admitted set
@@ -64,7 +64,7 @@ module _ (bs : List Bearer) (s : Survey) (known : Surveyed bs s) where
           each-split _ bs
           (λ before b later e.
           let formed : Formed b = each-here Formed before b later e each in
-          rw (known .counted (b .id) (formed .0)) (sym (verdict-member release8 free bs each before b later e)))
+          rw (known .again (b .id) (formed .0)) (sym (verdict-member release8 free bs each before b later e)))
 
       -- So a buffer of ones has all verdicts once those of the first bearers are written.
       pub settled-verdicts : (buffer : List ℕ) → length bs ≤ length buffer → written (settledBy s set) (s .places) (firstsOf s) (replicate (length bs) 1 ++ drop (length bs) buffer) ≡ map (verdict release8 free bs) bs ++ drop (length bs) buffer

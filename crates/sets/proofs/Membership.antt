@@ -11,6 +11,7 @@ use native.Mathlib.Omega.{arith}
 use lib.Arith.{bin-ind}
 use lib.Bits.{bitAnd, bitOr, or-step, and-step, or-shr, and-shr, or-comm, or-lt, or-zero-r}
 use lib.Count.{ones, ones-step}
+use store.Seg.{eqb-same}
 use lib.Dec.{ltb, eqb, eqb·suc-zero, eqb·zero-suc, eqb·suc-suc}
 use lib.Pow.{pow-pos, pow-lt, pow-mono, shr-shr}
 use Rattle.laws.proofs.Tests.{by-cases}
@@ -129,6 +130,17 @@ same-members a b =
     (λ m ih n h. joined m n (ih (n / 2) (halved m n h)) (h 0))
     a
     b
+
+-- Of one ID's bit a set has all or nothing.
+pub bit-in : (s k : ℕ) → bitAnd s (2 ^ k) ≡ cond (member s k) (2 ^ k) 0
+bit-in s k = same-members (bitAnd s (2 ^ k)) (cond (member s k) (2 ^ k) 0) each
+  where
+    each : (j : ℕ) → member (bitAnd s (2 ^ k)) j ≡ member (cond (member s k) (2 ^ k) 0) j
+    each j =
+        rw (member-both s (2 ^ k) j, member-power k j)
+        (by-cases (eqb j k)
+        (λ t. rw (t, eqb-true j k t) (by-cases (member s k) (λ u. rw u (sym (member-power k k ∙ eqb-same k))) (λ u. rw u (sym (member-none k)))))
+        (λ t. rw (t, and-false (member s j)) (by-cases (member s k) (λ u. rw u (sym (member-power k j ∙ t))) (λ u. rw u (sym (member-none j))))))
 
 -- An ID may be added to the one set of a union or to the other.
 pub union-slide : (a b k : ℕ) → union a (add b k) ≡ union (add a k) b
