@@ -1,5 +1,5 @@
 -- How many digits a number has, and how long the texts of numbers are.
-use Prim.Native.Nat.{ℕ, zero, suc, _+_, _*_, _/_, _≤_, _<_}
+use Prim.Native.Nat.{ℕ, zero, suc, _+_, _*_, _/_, _%_, _≤_, _<_}
 use mathlib.Core.Path.{_≡_, refl, _∙_}
 use mathlib.Core.List.{List, [], _∷_}
 use borrow.Author.Tests.{le-leb, lt-leb}
@@ -42,6 +42,13 @@ length-digits (suc k) n = length-append (digits k (n / 10)) _ ∙ rw (length-dig
 pub spelled : {before after : List ℕ} (at n k : ℕ) → k ≡ size n → at + k ≤ length before → after ≡ sets before at (fitting (at + k) before (digits k n))
     → Writes before after at (digits (size n) n) (at + k)
 spelled {before} at n k e room f = record { next = rw (e, length-digits (size n) n); bytes = rw (le-leb (at + k) (length before) room, e) at f }
+
+-- A number below ten is written as its digit.
+pub short-cell : (n after : ℕ) → n < 10 → cell n after ≡ (48 + n) ∷ after ∷ []
+unfolding digits
+short-cell n after h =
+    let small : n % 10 ≡ n = omega arith in
+    rw (one-digit 19 n h, small)
 
 -- A number and the byte after it have room in as many bytes as are said to be enough.
 pub cell-most : (n after : ℕ) → length (cell n after) ≤ cellRoom

@@ -37,11 +37,18 @@ pub struct Progress {
     pub written: usize,
 }
 
-// Writes a number and the byte after it from a place on, and answers the next place.
+// Writes a number and the byte after it from a place on, and answers the next place. Most numbers of a line have one digit, which
+// takes no division.
 fn cell(n: u64, after: u8, out: &mut [u8], at: usize) -> usize
     requires { ⌜ at + cellRoom ≤ length (now out) ⌝ }
     ensures { λ r. ⌜ Writes (now (out .entry)) (now (out .exit)) at (cellOf n after) r ⌝ }
 {
+    if n < 10 {
+        out[at] = 48 + n as u8;
+        let end = at + 1;
+        out[end] = after;
+        return end + 1;
+    }
     let k = size(n);
     spell(n, k, out, at);
     let end = at + k;
