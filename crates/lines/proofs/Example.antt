@@ -9,7 +9,8 @@ use Rattle.bearers.specs.Bearer.{recordsIn, allBearers}
 use Rattle.bearers.specs.Admission.{those, turnsFrom, freeAt, verdict}
 use Rattle.sets.specs.Sets as sets
 use Rattle.handover.specs.Numbers.{anyOf, issueFrom}
-use Rattle.table.specs.Table.{findFrom, dueFrom}
+use Rattle.places.specs.Places.{findFrom}
+use Rattle.table.specs.Table.{dueFrom}
 use Rattle.lines.specs.Lines.{newRun, linesIn, linesOf}
 use Rattle.buffers.specs.Digits.{sizeIn, digits, spaced}
 

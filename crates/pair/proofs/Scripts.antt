@@ -22,7 +22,8 @@ use Rattle.promises.specs.Cases.{numbered}
 use Rattle.handover.specs.Events.{message}
 use Rattle.handover.specs.Numbers.{anyOf, issueFrom}
 use Rattle.table.specs.Step.{stepOf}
-use Rattle.table.specs.Table.{findFrom, dueFrom}
+use Rattle.places.specs.Places.{findFrom}
+use Rattle.table.specs.Table.{dueFrom}
 use Rattle.promises.specs.Views.{named, out, held, due}
 use Rattle.pair.proofs.Lists.{all-pass}
 use Rattle.pair.specs.World.{Side, A, B, other, Numbers, Envelope, World, act, asSent, Carries, request, plain, isMessage, own, take, All, nothing, more, Bounded, withQueue, Acts, Loses, Step, acts, loses, next, Run, limit}

@@ -13,7 +13,8 @@ use Rattle.records.specs.declared.Record.{Record}
 use Rattle.promises.specs.Cases as cases
 use Rattle.handover.specs.Numbers.{blank, ownIs}
 use Rattle.table.specs.Step.{stepOf}
-use Rattle.table.specs.Table.{find, findFrom}
+use Rattle.places.specs.Places.{findFrom}
+use Rattle.table.specs.Table.{find}
 use Rattle.promises.specs.Views.{recordAt, named, dueOf, due, to}
 use Rattle.table.specs.declared.Answer.{Answer}
 use Rattle.handover.specs.declared.Entry.{Entry}

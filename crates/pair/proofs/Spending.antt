@@ -17,14 +17,15 @@ use Rattle.records.specs.Record.{InRange}
 use Rattle.records.specs.declared.Record.{Record}
 use Rattle.handover.specs.declared.Entry.{Entry}
 use Rattle.table.specs.declared.Answer.{Answer}
-use Rattle.table.specs.declared.Found.the-variants.{At, Nothing}
+use Rattle.places.specs.declared.Found.the-variants.{At, Nothing}
 use Rattle.table.specs.declared.Station.{Station}
 use Rattle.handover.specs.Events.{message, about}
 use Rattle.handover.specs.Numbers.{isFree, blank, preparing, ownIs, anyOf, issueFrom}
 use Rattle.fields.proofs.Forms.{used-in-range}
 use Rattle.handover.proofs.Issuing.{issue-free}
 use Rattle.table.specs.Step.{answer, stepOf, issue}
-use Rattle.table.specs.Table.{find, findFrom, holding}
+use Rattle.places.specs.Places.{findFrom}
+use Rattle.table.specs.Table.{find, holding}
 use Rattle.promises.proofs.Rows.{row-step, start-step}
 use Rattle.promises.specs.Views.{NotOut, someOut, outOf, out, named, sent, to, ending, issued}
 use Rattle.pair.specs.Theorem.{Empty}

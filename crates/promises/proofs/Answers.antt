@@ -13,7 +13,7 @@ use Rattle.laws.proofs.Sums.{total-at}
 use Rattle.laws.proofs.Tests.{by-cases, both-true, clash}
 use Rattle.records.specs.declared.Record.{Record}
 use Rattle.handover.specs.declared.Entry.{Entry}
-use Rattle.table.specs.declared.Found.the-variants.{At}
+use Rattle.places.specs.declared.Found.the-variants.{At}
 use Rattle.table.specs.declared.Station.{Station}
 use Rattle.handover.specs.Events.{about, message}
 use Rattle.fields.specs.Fields.{wellFormed}
@@ -26,7 +26,8 @@ use Rattle.promises.specs.Views.{NotOut, Preparing, Prepared, someOut, o
 use Rattle.promises.proofs.Bounds.{bounded}
 use Rattle.table.proofs.Counting.{own-is}
 use Rattle.fields.proofs.Forms.{used-in-range}
-use Rattle.table.proofs.Finding.{by-found, found-here, found-none, set-each}
+use Rattle.places.proofs.Finding.{by-found, found-none}
+use Rattle.table.proofs.Finding.{found-here, set-each}
 use Rattle.promises.proofs.Orderless.{about-once}
 use Rattle.table.proofs.Placing.{found-place}
 use Rattle.promises.proofs.Rows.{row-step}

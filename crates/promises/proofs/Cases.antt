@@ -18,7 +18,7 @@ use Rattle.bearers.specs.Bearer.{recordsIn, allBearers}
 use Rattle.bearers.specs.Admission.{those, turnsFrom, freeAt, verdict}
 use Rattle.sets.specs.Sets as sets
 use Rattle.table.specs.declared.Answer.{Answer}
-use Rattle.table.specs.declared.Found.the-variants.{At, Nothing}
+use Rattle.places.specs.declared.Found.the-variants.{At, Nothing}
 use Rattle.table.specs.declared.Settings.{Settings}
 use Rattle.table.specs.declared.Station.{Station}
 use Rattle.handover.specs.Events.{message}
@@ -26,7 +26,8 @@ use Rattle.fields.specs.Fields.{wellFormed}
 use Rattle.handover.specs.Numbers.{isFree, blank, ownIs, anyOf, nextAfter, issueFrom}
 use Rattle.table.specs.Reached.{Reached, born, stepped}
 use Rattle.table.specs.Step.{stepOf, issue, least, birthOf}
-use Rattle.table.specs.Table.{find, findFrom, dueFrom}
+use Rattle.places.specs.Places.{findFrom}
+use Rattle.table.specs.Table.{find, dueFrom}
 use Rattle.fields.proofs.Forms.{used-in-range}
 use Rattle.handover.proofs.Issuing.{issue-free, issue-used}
 use Rattle.promises.proofs.Rows.{row-step, start-step}

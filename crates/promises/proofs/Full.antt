@@ -11,7 +11,7 @@ use Rattle.laws.specs.Sums.{total}
 use Rattle.laws.proofs.Tests.{by-cases}
 use Rattle.records.specs.declared.Record.{Record}
 use Rattle.handover.specs.declared.Entry.{Entry}
-use Rattle.table.specs.declared.Found.the-variants.{At, Nothing}
+use Rattle.places.specs.declared.Found.the-variants.{At, Nothing}
 use Rattle.table.specs.declared.Station.{Station}
 use Rattle.handover.specs.Events.{about}
 use Rattle.fields.specs.Fields.{noEvent, sortOf, wellFormed}
@@ -19,7 +19,7 @@ use Rattle.handover.specs.Numbers.{isFree}
 use Rattle.table.specs.Sound.{Sound}
 use Rattle.table.specs.Step.{refused, failure, admission, taken, complete, stepOf}
 use Rattle.table.specs.Table.{find}
-use Rattle.table.proofs.Finding.{by-found, found-none}
+use Rattle.places.proofs.Finding.{by-found, found-none}
 use Rattle.promises.proofs.Rows.{start-step, full-step, crowded-step, empty-step, grant-step}
 use Rattle.table.proofs.Tally.{total-found, total-none-of}
 

@@ -22,7 +22,7 @@ use Rattle.promises.specs.Impostors.{Stepper, Handed, Meets, RefusesAll,
 use Rattle.handover.specs.Numbers.{anyOf, issueFrom}
 use Rattle.table.specs.Reached.{Reached}
 use Rattle.table.specs.Step.{complete, stepOf, verdictsOf}
-use Rattle.table.specs.Table.{findFrom}
+use Rattle.places.specs.Places.{findFrom}
 use Rattle.promises.proofs.Cases.{issued, fresh-reached, start-small, request-small}
 use Rattle.table.proofs.Parts.{Part, as-refusal, as-response, as-failure, as-grant, as-start, as-reset, as-idle, as-tick, as-event, part}
 

@@ -13,7 +13,7 @@ use Rattle.bearers.specs.Admission.{judgeable, judgementOf, replyOf, countOf}
 use Rattle.fields.specs.Fields.{wellFormed}
 use Rattle.handover.specs.Events.{about}
 use Rattle.handover.specs.Numbers.{isFree}
-use Rattle.table.specs.declared.Found.the-variants.{At, Nothing}
+use Rattle.places.specs.declared.Found.the-variants.{At, Nothing}
 use Rattle.table.specs.declared.Station.{Station}
 use Rattle.table.specs.Step.{admission, freeUnits, stepOf, taken}
 use Rattle.table.specs.Table.{find}

@@ -13,7 +13,7 @@ use Rattle.laws.proofs.Sums.{total-set}
 use Rattle.laws.proofs.Tests.{by-cases}
 use Rattle.table.specs.declared.Answer.{Answer}
 use Rattle.handover.specs.declared.Entry.{Entry}
-use Rattle.table.specs.declared.Found.the-variants.{At}
+use Rattle.places.specs.declared.Found.the-variants.{At}
 use Rattle.table.specs.declared.Station.{Station}
 use Rattle.handover.specs.Numbers.{isFree, blank, own, ownIs}
 use Rattle.table.specs.Sound.{Sound}

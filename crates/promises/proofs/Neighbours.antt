@@ -11,8 +11,8 @@ use lib.Seq.{getD-set-other}
 use Rattle.laws.proofs.Tests.{by-cases, both-true, between, refuted}
 use Rattle.records.specs.declared.Record.{Record}
 use Rattle.handover.specs.declared.Entry.{Entry}
-use Rattle.table.specs.declared.Found.{Found}
-use Rattle.table.specs.declared.Found.the-variants.{At, Nothing}
+use Rattle.places.specs.declared.Found.{Found}
+use Rattle.places.specs.declared.Found.the-variants.{At, Nothing}
 use Rattle.table.specs.declared.Station.{Station}
 use Rattle.handover.specs.Events.{about, actionOf, resets, decide}
 use Rattle.fields.proofs.Sorts.{every-of-sort}

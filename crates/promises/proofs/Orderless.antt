@@ -15,8 +15,8 @@ use Rattle.records.specs.declared.Record.{Record}
 use Rattle.table.specs.declared.Answer.{Answer}
 use Rattle.handover.specs.declared.Decision.{Decision}
 use Rattle.handover.specs.declared.Entry.{Entry}
-use Rattle.table.specs.declared.Found.{Found}
-use Rattle.table.specs.declared.Found.the-variants.{At, Nothing}
+use Rattle.places.specs.declared.Found.{Found}
+use Rattle.places.specs.declared.Found.the-variants.{At, Nothing}
 use Rattle.table.specs.declared.Station.{Station}
 use Rattle.handover.specs.Events.{about, resets, decide, key}
 use Rattle.fields.specs.Fields.{allOfNeighbour, sortOf, wellFormed}
@@ -25,7 +25,8 @@ use Rattle.table.specs.Sound.{Sound, ownTimes, heldTimes}
 use Rattle.table.specs.Step.{aboutOne, carried, stepOf}
 use Rattle.table.specs.Table.{find, put, leftOf, reset}
 use Rattle.table.proofs.Counting.{own-itself}
-use Rattle.table.proofs.Finding.{found-here, found-none, set-each}
+use Rattle.places.proofs.Finding.{found-none}
+use Rattle.table.proofs.Finding.{found-here, set-each}
 use Rattle.handover.proofs.Keys.{isOf, keyed-means}
 use Rattle.promises.proofs.Neighbours.{decide-deadline}
 use Rattle.table.proofs.Placing.{found-place}

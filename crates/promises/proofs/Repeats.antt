@@ -19,7 +19,8 @@ use Rattle.table.specs.Sound.{Sound}
 use Rattle.table.specs.Step.{refused, complete, taken, admission, stepOf}
 use Rattle.table.specs.Table.{find}
 use Rattle.handover.proofs.Keys.{request-about}
-use Rattle.table.proofs.Finding.{by-found, found-here, found-none}
+use Rattle.places.proofs.Finding.{by-found, found-none}
+use Rattle.table.proofs.Finding.{found-here}
 use Rattle.table.proofs.Placing.{found-place}
 use Rattle.table.proofs.Tally.{none-at}
 use Rattle.promises.proofs.Rows.{incomplete-step, repeat-step, crowded-step, empty-step, grant-step}

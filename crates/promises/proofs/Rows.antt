@@ -8,8 +8,8 @@ use lib.ListN.{getD}
 use Rattle.laws.proofs.Tests.{same-at}
 use Rattle.records.specs.declared.Record.{Record}
 use Rattle.handover.specs.declared.Decision.{Decision}
-use Rattle.table.specs.declared.Found.{Found}
-use Rattle.table.specs.declared.Found.the-variants.{At, Nothing}
+use Rattle.places.specs.declared.Found.{Found}
+use Rattle.places.specs.declared.Found.the-variants.{At, Nothing}
 use Rattle.table.specs.declared.Station.{Station}
 use Rattle.handover.specs.Events.{about, actionOf, message, silence}
 use Rattle.fields.specs.Fields.{oneRecord, allOfNeighbour, sortOf, wellFormed}

@@ -9,14 +9,15 @@ use lib.Dec.{leb, eqb}
 use lib.ListN.{length, getD}
 use Rattle.laws.proofs.Tests.{below-at}
 use Rattle.records.specs.declared.Record.{Record}
-use Rattle.table.specs.declared.Found.{Found}
+use Rattle.places.specs.declared.Found.{Found}
 use Rattle.table.specs.declared.Station.{Station}
 use Rattle.handover.specs.Events.{about}
 use Rattle.fields.specs.Fields.{oneRecord, sortOf, wellFormed}
 use Rattle.handover.specs.Numbers.{blank}
 use Rattle.table.specs.Step.{refused, aboutOne, stepOf}
 use Rattle.table.specs.Table.{find}
-use Rattle.table.proofs.Finding.{by-found, found-here}
+use Rattle.places.proofs.Finding.{by-found}
+use Rattle.table.proofs.Finding.{found-here}
 use Rattle.promises.proofs.Rows.{by-sort}
 use Rattle.handover.proofs.Keys.{isOf}
 use Rattle.handover.proofs.Senders.{concernsNeighbour, about-of, about-neighbour}

@@ -16,7 +16,7 @@ use Rattle.records.specs.declared.Record.{Record}
 use Rattle.table.specs.declared.Answer.{Answer}
 use Rattle.table.specs.declared.Best.{Best}
 use Rattle.handover.specs.declared.Entry.{Entry}
-use Rattle.table.specs.declared.Found.the-variants.{At, Nothing}
+use Rattle.places.specs.declared.Found.the-variants.{At, Nothing}
 use Rattle.table.specs.declared.Station.{Station}
 use Rattle.handover.specs.Events.{key, about, dueBy, sooner}
 use Rattle.fields.specs.Fields.{wellFormed}
@@ -24,7 +24,7 @@ use Rattle.handover.specs.Numbers.{isFree, blank, own, anyOf}
 use Rattle.table.specs.Sound.{Sound}
 use Rattle.table.specs.Step.{refused, stepOf}
 use Rattle.table.specs.Table.{dueFrom, soonest, at, put}
-use Rattle.table.proofs.Finding.{at-nothing, by-found}
+use Rattle.places.proofs.Finding.{at-nothing, by-found}
 use Rattle.handover.proofs.Keys.{keyed-means, tick-about}
 use Rattle.promises.proofs.Rows.{early-step, tick-step}
 use Rattle.handover.proofs.Rows.{due-ends}

@@ -13,7 +13,7 @@ use Rattle.bearers.specs.declared.Admission.{Admission}
 use Rattle.table.specs.declared.Answer.{Answer}
 use Rattle.handover.specs.declared.Decision.{Decision}
 use Rattle.handover.specs.declared.Entry.{Entry}
-use Rattle.table.specs.declared.Found.the-variants.{At}
+use Rattle.places.specs.declared.Found.the-variants.{At}
 use Rattle.table.specs.declared.Station.{Station}
 use Rattle.handover.specs.Events.{about, resets, actionOf, message, lastWord, decide, prepared, stored, serving}
 use Rattle.fields.specs.Fields.{allOfNeighbour, sortOf, wellFormed}

@@ -13,8 +13,8 @@ use Rattle.laws.proofs.Tests.{by-cases, both-true, neither, on-either, same-at,
 use Rattle.records.specs.declared.Record.{Record}
 use Rattle.table.specs.declared.Answer.{Answer}
 use Rattle.handover.specs.declared.Entry.{Entry}
-use Rattle.table.specs.declared.Found.{Found}
-use Rattle.table.specs.declared.Found.the-variants.{At}
+use Rattle.places.specs.declared.Found.{Found}
+use Rattle.places.specs.declared.Found.the-variants.{At}
 use Rattle.table.specs.declared.Station.{Station}
 use Rattle.handover.specs.Events.{about, actionOf, decide}
 use Rattle.fields.specs.Fields.{oneRecord, allOfNeighbour, soonestDue, newRecord, aRequest, noChange, sortOf, wellFormed}

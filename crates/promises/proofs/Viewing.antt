@@ -11,14 +11,15 @@ use Rattle.laws.proofs.Sums.{total-equal}
 use Rattle.laws.specs.Sums.{total}
 use Rattle.laws.proofs.Tests.{by-cases}
 use Rattle.handover.specs.declared.Entry.{Entry}
-use Rattle.table.specs.declared.Found.{Found}
+use Rattle.places.specs.declared.Found.{Found}
 use Rattle.table.specs.declared.Station.{Station}
 use Rattle.handover.specs.Numbers.{isFree, blank, own, ownIs, anyOf, nextAfter, issueFrom}
 use Rattle.table.specs.Sound.{Sound, ownTimes}
 use Rattle.table.specs.Table.{find}
 use Rattle.promises.specs.Views.{count, times, ownIds, Walk, land, pass, recordAt, named}
 use Rattle.table.proofs.Counting.{own-equal}
-use Rattle.table.proofs.Finding.{by-found, found-here, found-none}
+use Rattle.places.proofs.Finding.{by-found, found-none}
+use Rattle.table.proofs.Finding.{found-here}
 use Rattle.promises.proofs.Orderless.{once-at}
 use Rattle.table.proofs.Placing.{found-place}
 use Rattle.table.proofs.Tally.{total-none-of, total-any, none-at}

@@ -12,7 +12,7 @@ use Rattle.laws.proofs.Sums.{total-most, total-add, total-each}
 use Rattle.laws.specs.Sums.{total}
 use Rattle.laws.proofs.Tests.{by-cases, both-true, eqb-sym}
 use Rattle.handover.specs.declared.Entry.{Entry}
-use Rattle.table.specs.declared.Found.the-variants.{At}
+use Rattle.places.specs.declared.Found.the-variants.{At}
 use Rattle.table.specs.declared.Station.{Station}
 use Rattle.handover.specs.Numbers.{isFree, blank, own, ownIs, anyOf, nextAfter, issueFrom}
 use Rattle.table.specs.Sound.{Fit, Sound, ownTimes}

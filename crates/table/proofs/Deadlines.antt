@@ -15,7 +15,7 @@ use Rattle.handover.specs.Numbers.{isFree, blank, ownIs}
 use Rattle.handover.proofs.Done.{acknowledge-done}
 use Rattle.handover.proofs.Keys.{same-neighbour, same-old}
 use Rattle.table.specs.declared.Answer.{Answer}
-use Rattle.table.specs.declared.Found.the-variants.{At}
+use Rattle.places.specs.declared.Found.the-variants.{At}
 use Rattle.table.specs.declared.Station.{Station}
 use Rattle.table.specs.Sound.{Sound}
 use Rattle.table.specs.Step.{issue, started, heldFor, admission, taken, stepOf}

@@ -10,4 +10,3 @@ pub mod Requests
 pub mod Resetting
 pub mod Soundness
 pub mod Tally
-pub mod Walking

@@ -9,7 +9,7 @@ use lib.Dec.{ltb, eqb}
 use Rattle.laws.proofs.Tests.{by-cases}
 use Rattle.records.specs.declared.Record.{Record}
 use Rattle.table.specs.declared.Answer.{Answer}
-use Rattle.table.specs.declared.Found.the-variants.{At, Nothing}
+use Rattle.places.specs.declared.Found.the-variants.{At, Nothing}
 use Rattle.table.specs.declared.Station.{Station}
 use Rattle.handover.specs.Events.{about, actionOf, silence}
 use Rattle.fields.specs.Fields.{oneRecord, allOfNeighbour, soonestDue, newRecord, aRequest, noChange, sortOf, wellFormed}
@@ -17,7 +17,7 @@ use Rattle.fields.proofs.Sorts.{request-kind, start-kind, tick-kind}
 use Rattle.handover.specs.Numbers.{isFree}
 use Rattle.table.specs.Step.{answer, refused, aboutOne, resetOf, starting, startAt, tickAt, tickOf, taken, complete, admission, failure, granted, requestOf, bySort, stepOf}
 use Rattle.table.specs.Table.{find, soonest, at}
-use Rattle.table.proofs.Finding.{by-found}
+use Rattle.places.proofs.Finding.{by-found}
 
 pub data Part (s : Station) (e : Record) (bearers : List ℕ) (room : ℕ) : Answer → Type 0 where
   -- the station stays as it is; so it does at a reset's response, which is taken

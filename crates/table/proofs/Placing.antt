@@ -7,7 +7,7 @@ use lib.ListN.{getD}
 use Rattle.laws.proofs.Sums.{total-at}
 use Rattle.records.specs.declared.Record.{Record}
 use Rattle.handover.specs.declared.Entry.{Entry}
-use Rattle.table.specs.declared.Found.the-variants.{At}
+use Rattle.places.specs.declared.Found.the-variants.{At}
 use Rattle.table.specs.declared.Station.{Station}
 use Rattle.handover.specs.Events.{decide}
 use Rattle.handover.specs.Numbers.{blank}

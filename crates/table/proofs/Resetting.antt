@@ -16,7 +16,7 @@ use Rattle.table.specs.declared.Station.{Station}
 use Rattle.handover.specs.Events.{key, resets, resetsBy}
 use Rattle.handover.specs.Numbers.{blank}
 use Rattle.table.specs.Sound.{Sound}
-use Rattle.table.proofs.Walking.{left-here}
+use Rattle.places.proofs.Walking.{left-here}
 use Rattle.table.specs.Table.{holding, Puts, put, leftOf, backOf, reset}
 
 -- the record at a place ends, if a reset ends it

@@ -14,7 +14,7 @@ use Rattle.records.specs.declared.Record.{Record}
 use Rattle.bearers.specs.Admission.{judgeable}
 use Rattle.table.specs.declared.Answer.{Answer}
 use Rattle.handover.specs.declared.Entry.{Entry}
-use Rattle.table.specs.declared.Found.the-variants.{At, Nothing}
+use Rattle.places.specs.declared.Found.the-variants.{At, Nothing}
 use Rattle.table.specs.declared.Settings.{Settings}
 use Rattle.table.specs.declared.Station.{Station}
 use Rattle.handover.specs.Events.{about, decide}
@@ -27,7 +27,8 @@ use Rattle.table.proofs.Changes.{sound-at, sound-put, sound-add, sound-
 use Rattle.table.proofs.Counting.{issue-small, issue-unused, own-once}
 use Rattle.handover.proofs.Deciding.{decide-units}
 use Rattle.handover.proofs.Keys.{request-about}
-use Rattle.table.proofs.Finding.{found-here, found-none}
+use Rattle.places.proofs.Finding.{found-none}
+use Rattle.table.proofs.Finding.{found-here}
 use Rattle.table.proofs.Fits.{fit-blank, decided-fits, decided-own, decided-held, started-fits, held-fits}
 use Rattle.fields.proofs.Forms.{time-within}
 use Rattle.table.proofs.Parts.{Part, as-refusal, as-response, as-failure, as-grant, as-start, as-reset, as-idle, as-tick, as-event, part}

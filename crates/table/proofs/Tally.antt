@@ -9,7 +9,7 @@ use Rattle.laws.specs.Sums.{total}
 use Rattle.laws.proofs.Sums.{total-at}
 use Rattle.laws.proofs.Tests.{by-cases}
 use Rattle.handover.specs.declared.Entry.{Entry}
-use Rattle.table.specs.declared.Found.the-variants.{At}
+use Rattle.places.specs.declared.Found.the-variants.{At}
 use Rattle.table.specs.declared.Station.{Station}
 use Rattle.handover.specs.Numbers.{blank, anyOf}
 use Rattle.table.specs.Table.{find}

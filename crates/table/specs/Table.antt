@@ -8,19 +8,16 @@ use Rattle.laws.specs.Sums.{total}
 use Rattle.records.specs.declared.Record.{Record}
 use Rattle.table.specs.declared.Best.{Best}
 use Rattle.handover.specs.declared.Entry.{Entry}
-use Rattle.table.specs.declared.Found.{Found}
-use Rattle.table.specs.declared.Found.the-variants.{At, Nothing}
+use Rattle.places.specs.declared.Found.{Found}
+use Rattle.places.specs.declared.Found.the-variants.{At, Nothing}
 use Rattle.table.specs.declared.Station.{Station}
 use Rattle.handover.specs.Numbers.{isFree, blank}
+use Rattle.places.specs.Places.{findFrom}
 use Rattle.handover.specs.Events.{key, resets, dueBy, sooner}
 
 -- ---- finding
 
--- the first place at which a test holds, the places being counted from the given number on
-unfoldable pub findFrom : (Entry → Bool) → ℕ → List Entry → Found
-findFrom test i [] = Nothing
-findFrom test i (r ∷ rs) = cond (test r) (At i) (findFrom test (i + 1) rs)
-
+-- the first place at which a test holds
 abbrev pub find : (Entry → Bool) → Station → Found
 find test s = findFrom test 0 (s .entries)
 

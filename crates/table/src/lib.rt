@@ -26,9 +26,12 @@ use handover::events::reset_word;
 use handover::events::silence;
 use handover::numbers::blank;
 use handover::numbers::held;
-use handover::numbers::own;
-use handover::numbers::own_is;
 use handover::numbers::preparing;
+use places::Found;
+use places::find;
+use places::is_sooner;
+use places::issue;
+use places::vacant;
 use records::NewId;
 use records::OldId;
 use records::Record;
@@ -39,13 +42,13 @@ ghost use mathlib.Core.Bool.{cond, _&&_, _||_};
 ghost use mathlib.Core.List.{[]};
 ghost use Rattle.bearers.specs.Admission.{judgeable, allFive};
 ghost use lib.ListN.{length, getD};
-ghost use Rattle.handover.specs.Numbers.{isFree, ownIs, anyOf, nextAfter};
+ghost use Rattle.handover.specs.Numbers.{isFree};
 ghost use Rattle.table.specs.Table.{find as findOf, Puts, reset as resetTo};
-ghost use Rattle.table.specs.declared.Found.the-variants.{At};
+ghost use Rattle.places.specs.declared.Found.the-variants.{At};
 ghost use Rattle.table.specs.Sound.{Sound};
 ghost use Rattle.table.specs.Reached.{Reached};
-ghost use Rattle.table.specs.Step.{issue as issueOf, quiet as quietOf, refused as refusedOf, carried as carriedOf, aboutOne, tickOf, startAt, resetOf, failure as failureOf, granted, grantAt, admittedAt, verdictsAt, requestOf, requestVerdicts, stepOf, verdictsOf, isTimer, settled, fresh as freshOf, birthOf};
-ghost use Rattle.handover.specs.Events.{about, dueBy, sooner};
+ghost use Rattle.table.specs.Step.{quiet as quietOf, refused as refusedOf, carried as carriedOf, aboutOne, tickOf, startAt, resetOf, failure as failureOf, granted, grantAt, admittedAt, verdictsAt, requestOf, requestVerdicts, stepOf, verdictsOf, isTimer, settled, fresh as freshOf, birthOf};
+ghost use Rattle.handover.specs.Events.{about};
 
 // The capacity in units, and TRELOCprep, TX2RELOCoverall and the guard in ms.
 pub struct Settings {
@@ -82,29 +85,10 @@ pub struct Birth {
     pub station: Station,
 }
 
-// A place of the table, if there is one.
-pub enum Found {
-    At(usize),
-    Nothing,
-}
-
 // The soonest due record so far, and its place; none if it is free.
 pub struct Best {
     place: usize,
     entry: Entry,
-}
-
-// Whether a record is due, and sooner than the best so far. Most are not due: that is looked at first.
-fn is_sooner(e: Record, key: [u8; 5], r: Entry, best: Entry) -> bool
-    ensures { λ x. ⌜ x ≡ (dueBy (λ k. getD key k 0) e r && (isFree best || sooner r best)) ⌝ }
-{
-    if e.time < r.deadline {
-        return false;
-    }
-    let mine = own(r);
-    let its = own(best);
-    let sooner = (r.deadline < best.deadline) | ((r.deadline == best.deadline) & (mine < its));
-    is_about(e, r, key) & ((best.state == 0) | sooner)
 }
 
 // A reply that changes nothing and sends nothing.
@@ -117,14 +101,6 @@ fn quiet(reply: u8) -> Outcome
         count: 0,
         message: silence(),
     }
-}
-
-// The number after an own ID.
-fn next_after(id: u16) -> u16
-    requires { ⌜ id < 4096 ⌝ }
-    ensures { λ r. ⌜ r ≡ nextAfter id ⌝ }
-{
-    if id == 4095 { 0 } else { id + 1 }
 }
 
 // A timer is 1 to 600,000 ms.
@@ -177,65 +153,6 @@ impl Station {
             reply: 1,
             station: fresh(least),
         }
-    }
-
-    // The first record that an event is about.
-    fn find(self, e: Record) -> Found
-        requires { ⌜ length (self .entries) ≡ 64 ⌝ }
-        ensures { λ r. ⌜ r ≡ findOf (about e) self ⌝ }
-    {
-        let key = key_of(e.kind);
-        for i in 0..64 {
-            let r = self.entries[i];
-            if is_about(e, r, key) {
-                return Found::At(i);
-            }
-        }
-        Found::Nothing
-    }
-
-    // The first free place.
-    fn vacant(self) -> Found
-        requires { ⌜ length (self .entries) ≡ 64 ⌝ }
-        ensures { λ r. ⌜ r ≡ findOf isFree self ⌝ }
-    {
-        for i in 0..64 {
-            let r = self.entries[i];
-            if r.state == 0 {
-                return Found::At(i);
-            }
-        }
-        Found::Nothing
-    }
-
-    // Whether a number is the own ID of a record.
-    fn uses(self, id: u16) -> bool
-        requires { ⌜ length (self .entries) ≡ 64 ⌝ }
-        ensures { λ r. ⌜ r ≡ anyOf (ownIs id) (self .entries) ⌝ }
-    {
-        for i in 0..64 {
-            if own_is(id, self.entries[i]) {
-                return true;
-            }
-        }
-        false
-    }
-
-    // The own ID to be issued next.
-    fn issue(self) -> u16
-        requires { ⌜ (length (self .entries) ≡ 64) × (self .last < 4096) ⌝ }
-        ensures { λ r. ⌜ (r ≡ issueOf self) × (r < 4096) ⌝ }
-    {
-        let mut id = next_after(self.last);
-        let mut most: usize = 64;
-        while 0 < most {
-            if !self.uses(id) {
-                return id;
-            }
-            id = next_after(id);
-            most -= 1;
-        }
-        id
     }
 
     // A decision about the record at a place is carried out.
@@ -316,7 +233,8 @@ impl Station {
         requires { ⌜ Sound self ⌝ }
         ensures { λ a. ⌜ a ≡ startAt e (findOf isFree self) self ⌝ }
     {
-        let found = self.vacant();
+        let entries = self.entries;
+        let found = vacant(entries);
         match found {
             Found::At(i) => self.begin(e, i),
             Found::Nothing => Answer {
@@ -337,7 +255,8 @@ impl Station {
                 station: self,
             };
         }
-        let old = self.issue();
+        let entries = self.entries;
+        let old = issue(entries, self.last);
         self.last = old;
         let deadline = self.clock + self.settings.prep as u64;
         self.entries[i] = preparing(e.neighbour, OldId(old), e.first, deadline);
@@ -421,7 +340,8 @@ impl Station {
         requires { ⌜ (i < 64) × (a .units ≤ self .settings .capacity - self .used) × Sound self ⌝ }
         ensures { λ x. ⌜ x ≡ granted e a i self ⌝ }
     {
-        let new = self.issue();
+        let entries = self.entries;
+        let new = issue(entries, self.last);
         let old = e.old;
         self.last = new;
         self.used = self.used + a.units;
@@ -457,7 +377,8 @@ impl Station {
         requires { ⌜ Sound self ⌝ }
         ensures { λ a. ⌜ (a ≡ cond (judgeable (now (bearers .entry)) (length (now (verdicts .entry)))) (admittedAt e (now (bearers .entry)) (findOf isFree self) self) (refusedOf 1 self)) × (now (verdicts .exit) ≡ cond (judgeable (now (bearers .entry)) (length (now (verdicts .entry)))) (verdictsAt (now (bearers .entry)) (findOf isFree self) self (now (verdicts .entry))) (now (verdicts .entry))) ⌝ }
     {
-        let found = self.vacant();
+        let entries = self.entries;
+        let found = vacant(entries);
         match found {
             Found::At(i) => {
                 let judged = admit(bearers, self.settings.capacity - self.used, verdicts);
@@ -485,7 +406,8 @@ impl Station {
                 station: self,
             };
         }
-        let found = self.find(e);
+        let entries = self.entries;
+        let found = find(entries, e);
         match found {
             Found::At(_) => {
                 let judged = can_judge(&bearers[..size], verdicts.len());

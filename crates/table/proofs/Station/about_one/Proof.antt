@@ -7,9 +7,10 @@ use lib.ListN.{getD, drop}
 use Rattle.handover.specs.Numbers.{blank}
 use Rattle.handover.specs.declared.Decision.{Decision}
 use Rattle.handover.specs.Events.{about}
-use Rattle.table.specs.declared.Found.the-variants.{At, Nothing}
-use Rattle.table.specs.Table.{find, findFrom, Puts}
-use Rattle.table.proofs.Walking.{walk-on, walk-end}
+use Rattle.places.specs.declared.Found.the-variants.{At, Nothing}
+use Rattle.places.specs.Places.{findFrom}
+use Rattle.table.specs.Table.{find, Puts}
+use Rattle.places.proofs.Walking.{walk-on, walk-end}
 use Rattle.table.proofs.Placing.{decided-puts}
 use borrow.Author.Needs.{needs}
 use Rattle.table.proofs.Station.about_one.Statement.{statement}

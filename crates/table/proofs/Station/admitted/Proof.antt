@@ -5,7 +5,7 @@ use mathlib.Core.Path.{_≡_, _∙_, sym, ap, subst}
 use lib.ListN.{length}
 use Rattle.bearers.specs.Admission.{judgeable}
 use Rattle.bearers.specs.declared.Admission.{Admission}
-use Rattle.table.specs.declared.Found.the-variants.{At, Nothing}
+use Rattle.places.specs.declared.Found.the-variants.{At, Nothing}
 use Rattle.handover.specs.Numbers.{isFree}
 use Rattle.table.specs.Step.{admission, freeUnits, grantAt}
 use Rattle.table.specs.Table.{find}
@@ -16,13 +16,13 @@ use Rattle.table.proofs.Station.admitted.Statement.{statement}
 use Rattle.table.proofs.Station.admitted.Tie as tie
 
 -- the free place that was found
-here : (c : tie.After-known-told) → find isFree (c .before .before .before .before .before .before .args .self) ≡ At (c .before .found .given .0 .0)
-here c = sym (c .before .before .before .vacant .ensures) ∙ c .before .found .given .1
+here : (c : tie.After-known-told) → find isFree (c .before .before .before .before .before .before .before .args .self) ≡ At (c .before .found .given .0 .0)
+here c = sym (c .before .before .before .vacant .ensures (c .before .before .before .before .before .before .before .pre .places)) ∙ c .before .found .given .1
 
 -- what was admitted, and that the bearers could be judged
-judged : (c : tie.After-known-told2) → let a = c .before .before .before .before .before .before .before .before .before .before .before .before .before .before .args in (judgeable (a .bearers .now) (length (a .verdicts .now)) ≡ true) × (admission (a .bearers .now) (a .self) ≡ c .before .judged .given .0 .0)
+judged : (c : tie.After-known-told2) → let a = c .before .before .before .before .before .before .before .before .before .before .before .before .before .before .before .args in (judgeable (a .bearers .now) (length (a .verdicts .now)) ≡ true) × (admission (a .bearers .now) (a .self) ≡ c .before .judged .given .0 .0)
 judged c =
-    let a = c .before .before .before .before .before .before .before .before .before .before .before .before .before .before .args in
+    let a = c .before .before .before .before .before .before .before .before .before .before .before .before .before .before .before .args in
     given (a .bearers .now) (freeUnits (a .self)) (length (a .verdicts .now)) _ (sym (c .before .before .before .before .before .admit .ensures .0) ∙ c .before .judged .given .1)
 
 vacant-requires : tie.Need-vacant-requires
@@ -42,11 +42,11 @@ enum-known-judged c = search needs
 
 grant-requires : tie.Need-grant-requires
 grant-requires c κs =
-    let a = c .before .before .before .before .before .before .before .before .before .before .before .before .before .before .args in
+    let a = c .before .before .before .before .before .before .before .before .before .before .before .before .before .before .before .args in
     let free = freeUnits (a .self) in (
-      found-place (a .self) (c .before .before .before .before .before .before .before .before .before .before .before .before .before .before .pre) isFree _ (here (c .before .before .before .before .before .before .before .before)),
+      found-place (a .self) (c .before .before .before .before .before .before .before .before .before .before .before .before .before .before .before .pre) isFree _ (here (c .before .before .before .before .before .before .before .before)),
       subst (λ (x : Admission). x .units ≤ free) (judged c .1) (units-free (a .bearers .now) free (length (a .verdicts .now)) (judged c .0)),
-      c .before .before .before .before .before .before .before .before .before .before .before .before .before .before .pre,
+      c .before .before .before .before .before .before .before .before .before .before .before .before .before .before .before .pre,
     )
 
 enum-told : tie.Need-enum-told
@@ -66,7 +66,7 @@ same-length c = search needs
 
 returns : tie.Need-returns
 returns c =
-    let a = c .before .before .before .before .before .before .before .before .before .before .before .before .before .before .before .args in
+    let a = c .before .before .before .before .before .before .before .before .before .before .before .before .before .before .before .before .args in
     let could = judged (c .before) .0 in
     let place = here (c .before .before .before .before .before .before .before .before .before) in (
       rw (could, place) (c .grant .ensures ∙ ap (λ (x : Admission). grantAt (a .e) x (c .before .before .before .before .before .before .before .before .before .before .found .given .0 .0) (a .self)) (sym (judged (c .before) .1))),
@@ -78,7 +78,7 @@ same-length-2 c = search needs
 
 returns-2 : tie.Need-returns-2
 returns-2 c =
-    let a = c .before .before .before .before .before .before .before .before .before .before .before .before .before .before .args in
+    let a = c .before .before .before .before .before .before .before .before .before .before .before .before .before .before .before .args in
     let admit = c .before .before .before .before .before .admit .ensures in
     let bad = malformed (a .bearers .now) (freeUnits (a .self)) (length (a .verdicts .now)) (sym (admit .0) ∙ c .before .enum-told .given .1) in
     (rw (bad, c .quiet .ensures), rw bad (admit .1 ∙ rw bad))
@@ -88,7 +88,7 @@ same-length-3 c = search needs
 
 returns-3 : tie.Need-returns-3
 returns-3 c =
-    let none : find isFree (c .before .before .before .before .before .before .before .before .before .args .self) ≡ Nothing = sym (c .before .before .before .before .before .before .vacant .ensures) ∙ c .before .before .before .before .enum-told2 .given .1 in
+    let none : find isFree (c .before .before .before .before .before .before .before .before .before .before .args .self) ≡ Nothing = sym (c .before .before .before .before .before .before .vacant .ensures (c .before .before .before .before .before .before .before .before .before .before .pre .places)) ∙ c .before .before .before .before .enum-told2 .given .1 in
     (rw none (c .before .before .full .ensures .0), rw none (c .before .before .full .ensures .1))
 
 pub admitted-spec : {M : Type 1} → statement M

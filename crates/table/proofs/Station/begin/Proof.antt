@@ -28,8 +28,8 @@ add-deadline c = search needs
 preparing-requires : tie.Need-preparing-requires
 preparing-requires c κs = search needs
 
-mul-t18 : tie.Need-mul-t18
-mul-t18 c = search needs
+mul-t19 : tie.Need-mul-t19
+mul-t19 c = search needs
 
 element-set-from-self : tie.Need-element-set-from-self
 element-set-from-self c = search needs
@@ -39,8 +39,9 @@ message-requires c κs = search needs
 
 returns-2 : tie.Need-returns-2
 returns-2 c =
-    let action = c .before .before .before .before .action-of in
-    rw (← action .ensures, not-false (eqb (action .result) 14) (c .before .before .before .if1 .left), c .message .ensures, c .before .preparing .ensures, c .before .before .issue .ensures .0, add-zero (c .before .before .before .before .before .args .t1 .used))
+    let sound = c .before .before .before .before .before .before .pre .1 in
+    let action = c .before .before .before .before .before .action-of in
+    rw (← action .ensures, not-false (eqb (action .result) 14) (c .before .before .before .before .if1 .left), c .message .ensures, c .before .preparing .ensures, c .before .before .issue .ensures (sound .places) (sound .last) .0, add-zero (c .before .before .before .before .before .before .args .t1 .used))
 
 pub begin-spec : {M : Type 1} → statement M
 begin-spec =
@@ -53,7 +54,7 @@ begin-spec =
     cast-deadline
     add-deadline
     preparing-requires
-    mul-t18
+    mul-t19
     element-set-from-self
     message-requires
     returns-2)

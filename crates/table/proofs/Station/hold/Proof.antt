@@ -18,8 +18,8 @@ add-deadline c = search needs
 held-requires : tie.Need-held-requires
 held-requires c κs = search needs
 
-mul-t16 : tie.Need-mul-t16
-mul-t16 c = search needs
+mul-t17 : tie.Need-mul-t17
+mul-t17 c = search needs
 
 element-set-from-self : tie.Need-element-set-from-self
 element-set-from-self c = search needs
@@ -28,7 +28,9 @@ message-requires : tie.Need-message-requires
 message-requires c κs = search needs
 
 returns : tie.Need-returns
-returns c = rw (c .message .ensures, c .before .held .ensures, c .before .before .before .before .issue .ensures .0)
+returns c =
+    let sound = c .before .before .before .before .before .before .pre .2 in
+    rw (c .message .ensures, c .before .held .ensures, c .before .before .before .before .issue .ensures (sound .places) (sound .last) .0)
 
 pub hold-spec : {M : Type 1} → statement M
 hold-spec =
@@ -39,7 +41,7 @@ hold-spec =
     cast-deadline
     add-deadline
     held-requires
-    mul-t16
+    mul-t17
     element-set-from-self
     message-requires
     returns)

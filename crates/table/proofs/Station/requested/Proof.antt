@@ -32,7 +32,7 @@ enum-told : tie.Need-enum-told
 enum-told c = search needs
 
 slice-aggregate-can-judge : tie.Need-slice-aggregate-can-judge
-slice-aggregate-can-judge c = sym (length-take-le _ (c .before .before .before .before .before .before .before .before .args .bearers .now) (omega arith))
+slice-aggregate-can-judge c = sym (length-take-le _ (c .before .before .before .before .before .before .before .before .before .args .bearers .now) (omega arith))
 
 can-judge-requires : tie.Need-can-judge-requires
 can-judge-requires c κs = search needs
@@ -44,16 +44,16 @@ enum-told-2 : tie.Need-enum-told-2
 enum-told-2 c = search needs
 
 slice-aggregate-admitted : tie.Need-slice-aggregate-admitted
-slice-aggregate-admitted c = sym (length-take-le _ (c .before .before .before .before .before .before .before .before .args .bearers .now) (omega arith))
+slice-aggregate-admitted c = sym (length-take-le _ (c .before .before .before .before .before .before .before .before .before .args .bearers .now) (omega arith))
 
 admitted-requires : tie.Need-admitted-requires
 admitted-requires c κs = search needs
 
 returns-2 : tie.Need-returns-2
 returns-2 c =
-    let a = c .before .before .before .before .before .before .before .before .before .before .before .args in
-    let enough = le-leb (a .e .number * 32) (length (a .bearers .now)) (c .before .before .before .before .before .before .before .if1 .left) in
-    let there = sym (c .before .before .before .before .before .before .find .ensures) ∙ c .before .before .before .before .enum-told .given .1 in
+    let a = c .before .before .before .before .before .before .before .before .before .before .before .before .args in
+    let enough = le-leb (a .e .number * 32) (length (a .bearers .now)) (c .before .before .before .before .before .before .before .before .if1 .left) in
+    let there = sym (c .before .before .before .before .before .before .find .ensures (c .before .before .before .before .before .before .before .before .before .before .before .before .pre .1 .places)) ∙ c .before .before .before .before .enum-told .given .1 in
     let judged = sym (c .before .before .can-judge .ensures) in
     ⊎-elim
     (λ t. (rw (enough, judged ∙ t .0 .taken, there, c .quiet2 .ensures, t .1), rw (enough, judged ∙ t .0 .taken, there)))
@@ -65,9 +65,9 @@ same-length c = search needs
 
 returns-3 : tie.Need-returns-3
 returns-3 c =
-    let a = c .before .before .before .before .before .before .before .before .before .before .before .before .args in
-    let enough = le-leb (a .e .number * 32) (length (a .bearers .now)) (c .before .before .before .before .before .before .before .before .if1 .left) in
-    let none = sym (c .before .before .before .before .before .before .before .find .ensures) ∙ c .before .before .before .before .before .enum-told2 .given .1 in
+    let a = c .before .before .before .before .before .before .before .before .before .before .before .before .before .args in
+    let enough = le-leb (a .e .number * 32) (length (a .bearers .now)) (c .before .before .before .before .before .before .before .before .before .if1 .left) in
+    let none = sym (c .before .before .before .before .before .before .before .find .ensures (c .before .before .before .before .before .before .before .before .before .before .before .before .before .pre .1 .places)) ∙ c .before .before .before .before .before .enum-told2 .given .1 in
     let admitted = c .before .before .admitted .ensures in
     (rw (enough, none) (admitted .0), rw (enough, none) (admitted .1))
 

@@ -1,7 +1,7 @@
 -- The record is made in the free place that is found, if there is one.
 use mathlib.Core.Path.{_≡_, _∙_, sym}
 use Rattle.handover.specs.Numbers.{isFree}
-use Rattle.table.specs.declared.Found.the-variants.{At}
+use Rattle.places.specs.declared.Found.the-variants.{At}
 use Rattle.table.specs.Table.{find}
 use Rattle.table.proofs.Placing.{found-place}
 use borrow.Author.Needs.{needs}
@@ -9,8 +9,8 @@ use Rattle.table.proofs.Station.start.Statement.{statement}
 use Rattle.table.proofs.Station.start.Tie as tie
 
 -- what was found
-here : (c : tie.After-known-told) → find isFree (c .before .before .before .before .args .self) ≡ At (c .before .found .given .0 .0)
-here c = sym (c .before .before .before .vacant .ensures) ∙ c .before .found .given .1
+here : (c : tie.After-known-told) → find isFree (c .before .before .before .before .before .args .self) ≡ At (c .before .found .given .0 .0)
+here c = sym (c .before .before .before .vacant .ensures (c .before .before .before .before .before .pre .places)) ∙ c .before .found .given .1
 
 vacant-requires : tie.Need-vacant-requires
 vacant-requires c κs = search needs
@@ -19,7 +19,7 @@ enum-known-found : tie.Need-enum-known-found
 enum-known-found c = search needs
 
 begin-requires : tie.Need-begin-requires
-begin-requires c κs = (found-place (c .before .before .before .before .args .self) (c .before .before .before .before .pre) isFree _ (here c), c .before .before .before .before .pre)
+begin-requires c κs = (found-place (c .before .before .before .before .before .args .self) (c .before .before .before .before .before .pre) isFree _ (here c), c .before .before .before .before .before .pre)
 
 enum-told : tie.Need-enum-told
 enum-told c = search needs
@@ -31,7 +31,7 @@ returns : tie.Need-returns
 returns c = c .begin .ensures ∙ rw (here (c .before))
 
 returns-2 : tie.Need-returns-2
-returns-2 c = rw (sym (c .before .before .before .vacant .ensures) ∙ c .before .enum-told .given .1, c .quiet .ensures)
+returns-2 c = rw (sym (c .before .before .before .vacant .ensures (c .before .before .before .before .before .pre .places)) ∙ c .before .enum-told .given .1, c .quiet .ensures)
 
 pub start-spec : {M : Type 1} → statement M
 start-spec =

@@ -8,11 +8,11 @@ use native.Mathlib.Omega.{arith}
 use lib.ListN.{getD, drop}
 use Rattle.table.specs.declared.Best.{Best}
 use Rattle.handover.specs.declared.Decision.{Decision}
-use Rattle.table.specs.declared.Found.the-variants.{At, Nothing}
+use Rattle.places.specs.declared.Found.the-variants.{At, Nothing}
 use Rattle.handover.specs.Events.{key}
 use Rattle.handover.specs.Numbers.{blank}
 use Rattle.table.specs.Table.{betterBy, placeOf, dueFrom, soonest, at, Puts}
-use Rattle.table.proofs.Walking.{walk-on, walk-end}
+use Rattle.places.proofs.Walking.{walk-on, walk-end}
 use Rattle.table.proofs.Placing.{due-place, decided-puts, puts-at}
 use borrow.Author.Needs.{needs}
 use Rattle.table.proofs.Station.tick.Statement.{statement}

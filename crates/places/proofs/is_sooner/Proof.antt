@@ -4,8 +4,8 @@ use mathlib.Core.Bool.{and-false, and-true}
 use lib.ListN.{getD}
 use Rattle.handover.specs.Events.{keyed}
 use borrow.Author.Needs.{needs}
-use Rattle.table.proofs.is_sooner.Statement.{statement}
-use Rattle.table.proofs.is_sooner.Tie as tie
+use Rattle.places.proofs.is_sooner.Statement.{statement}
+use Rattle.places.proofs.is_sooner.Tie as tie
 
 returns : tie.Need-returns
 returns c =

@@ -5,33 +5,33 @@ use mathlib.Core.Path.{_≡_, refl}
 use native.Mathlib.Omega.{arith}
 use lib.ListN.{drop}
 use Rattle.handover.specs.Numbers.{isFree}
-use Rattle.table.specs.Table.{find, findFrom}
-use Rattle.table.proofs.Walking.{walk-on, walk-end}
+use Rattle.places.specs.Places.{Whole, findFrom}
+use Rattle.places.proofs.Walking.{walk-on, walk-end}
 use borrow.Author.Needs.{needs}
-use Rattle.table.proofs.Station.vacant.Statement.{statement}
-use Rattle.table.proofs.Station.vacant.Tie as tie
+use Rattle.places.proofs.vacant.Statement.{statement}
+use Rattle.places.proofs.vacant.Tie as tie
 
 abbrev Inv-loop : tie.InvT-loop
-Inv-loop self i₀ i = (i ≤ 64) × (findFrom isFree i (drop i (self .entries)) ≡ find isFree self)
+Inv-loop entries i₀ i = (i ≤ 64) × (Whole entries → findFrom isFree i (drop i entries) ≡ findFrom isFree 0 entries)
 
 abbrev μ-loop : tie.MeasureT-loop
-μ-loop self i₀ i = 64 - i
+μ-loop entries i₀ i = 64 - i
 
 loop-holds : tie.Need-loop-holds Inv-loop μ-loop
-loop-holds c = (omega arith, refl)
+loop-holds c = (omega arith, λ _. refl)
 
 mul-r : tie.Need-mul-r Inv-loop μ-loop
 mul-r c = search needs
 
-element-copy-out-r : tie.Need-element-copy-out-r Inv-loop μ-loop
-element-copy-out-r c = search needs
+array-copy-out-r : tie.Need-array-copy-out-r Inv-loop μ-loop
+array-copy-out-r c = search needs
 
 returns : tie.Need-returns Inv-loop μ-loop
 unfolding findFrom
 returns c =
     let a = c .before .before .before .before .before .args in
     let l = c .before .before .before .before .loop in
-    rw (eq-eqb _ 0 (c .if1 .taken)) at (walk-on (a .t1 .entries) (c .before .before .before .before .before .pre) (l .i) (findFrom isFree (l .i)) _ (l .inv .1) (c .before .before .before .loop-test .taken))
+    λ whole. rw (eq-eqb _ 0 (c .if1 .taken)) at (walk-on (a .t1) whole (l .i) (findFrom isFree (l .i)) _ (l .inv .1 whole) (c .before .before .before .loop-test .taken))
 
 add-i : tie.Need-add-i Inv-loop μ-loop
 add-i c = search needs
@@ -44,13 +44,13 @@ unfolding findFrom
 loop-again c =
     let a = c .before .before .before .before .before .args in
     let l = c .before .before .before .before .loop in
-    (omega arith, rw (ne-eqb _ 0 (c .if1 .left)) at (walk-on (a .t1 .entries) (c .before .before .before .before .before .pre) (l .i) (findFrom isFree (l .i)) _ (l .inv .1) (c .before .before .before .loop-test .taken)))
+    (omega arith, λ whole. rw (ne-eqb _ 0 (c .if1 .left)) at (walk-on (a .t1) whole (l .i) (findFrom isFree (l .i)) _ (l .inv .1 whole) (c .before .before .before .loop-test .taken)))
 
 returns-2 : tie.Need-returns-2 Inv-loop μ-loop
 unfolding findFrom
 returns-2 c =
     let l = c .before .loop in
-    walk-end (c .before .before .args .t1 .entries) (c .before .before .pre) (l .i) (findFrom isFree (l .i)) _ (l .inv .1) (c .loop-test .left)
+    λ whole. walk-end (c .before .before .args .t1) whole (l .i) (findFrom isFree (l .i)) _ (l .inv .1 whole) (c .loop-test .left)
 
 pub vacant-spec : {M : Type 1} → statement M
 vacant-spec =
@@ -60,7 +60,7 @@ vacant-spec =
     μ-loop
     loop-holds
     mul-r
-    element-copy-out-r
+    array-copy-out-r
     returns
     add-i
     loop-less

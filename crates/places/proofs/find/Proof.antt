@@ -6,29 +6,29 @@ use mathlib.Core.Bool.{true, false}
 use lib.ListN.{getD, drop}
 use Rattle.handover.specs.Numbers.{blank}
 use Rattle.handover.specs.Events.{about}
-use Rattle.table.specs.Table.{find, findFrom}
-use Rattle.table.proofs.Walking.{walk-on, walk-end}
+use Rattle.places.specs.Places.{Whole, findFrom}
+use Rattle.places.proofs.Walking.{walk-on, walk-end}
 use borrow.Author.Needs.{needs}
-use Rattle.table.proofs.Station.find.Statement.{statement}
-use Rattle.table.proofs.Station.find.Tie as tie
+use Rattle.places.proofs.find.Statement.{statement}
+use Rattle.places.proofs.find.Tie as tie
 
 abbrev Inv-loop : tie.InvT-loop
-Inv-loop e self key i₀ i = (i ≤ 64) × (findFrom (about e) i (drop i (self .entries)) ≡ find (about e) self)
+Inv-loop e entries key i₀ i = (i ≤ 64) × (Whole entries → findFrom (about e) i (drop i entries) ≡ findFrom (about e) 0 entries)
 
 abbrev μ-loop : tie.MeasureT-loop
-μ-loop e self key i₀ i = 64 - i
+μ-loop e entries key i₀ i = 64 - i
 
 key-of-requires : tie.Need-key-of-requires Inv-loop μ-loop
 key-of-requires c κs = search needs
 
 loop-holds : tie.Need-loop-holds Inv-loop μ-loop
-loop-holds c = (omega arith, refl)
+loop-holds c = (omega arith, λ _. refl)
 
 mul-r : tie.Need-mul-r Inv-loop μ-loop
 mul-r c = search needs
 
-element-copy-out-r : tie.Need-element-copy-out-r Inv-loop μ-loop
-element-copy-out-r c = search needs
+array-copy-out-r : tie.Need-array-copy-out-r Inv-loop μ-loop
+array-copy-out-r c = search needs
 
 is-about-requires : tie.Need-is-about-requires Inv-loop μ-loop
 is-about-requires c κs = search needs
@@ -38,8 +38,8 @@ unfolding findFrom
 returns c =
     let a = c .before .before .before .before .before .before .args in
     let l = c .before .before .before .before .loop in
-    let mine : about (a .e) (getD (a .t1 .entries) (l .i) blank) ≡ true = sym (rw (c .before .before .before .before .before .key-of .ensures) at (c .before .is-about .ensures)) ∙ c .if1 .taken in
-    rw mine at (walk-on (a .t1 .entries) (c .before .before .before .before .before .before .pre) (l .i) (findFrom (about (a .e)) (l .i)) _ (l .inv .1) (c .before .before .before .loop-test .taken))
+    let mine : about (a .e) (getD (a .t1) (l .i) blank) ≡ true = sym (rw (c .before .before .before .before .before .key-of .ensures) at (c .before .is-about .ensures)) ∙ c .if1 .taken in
+    λ whole. rw mine at (walk-on (a .t1) whole (l .i) (findFrom (about (a .e)) (l .i)) _ (l .inv .1 whole) (c .before .before .before .loop-test .taken))
 
 add-i : tie.Need-add-i Inv-loop μ-loop
 add-i c = search needs
@@ -52,15 +52,15 @@ unfolding findFrom
 loop-again c =
     let a = c .before .before .before .before .before .before .args in
     let l = c .before .before .before .before .loop in
-    let other : about (a .e) (getD (a .t1 .entries) (l .i) blank) ≡ false = sym (rw (c .before .before .before .before .before .key-of .ensures) at (c .before .is-about .ensures)) ∙ c .if1 .left in
-    (omega arith, rw other at (walk-on (a .t1 .entries) (c .before .before .before .before .before .before .pre) (l .i) (findFrom (about (a .e)) (l .i)) _ (l .inv .1) (c .before .before .before .loop-test .taken)))
+    let other : about (a .e) (getD (a .t1) (l .i) blank) ≡ false = sym (rw (c .before .before .before .before .before .key-of .ensures) at (c .before .is-about .ensures)) ∙ c .if1 .left in
+    (omega arith, λ whole. rw other at (walk-on (a .t1) whole (l .i) (findFrom (about (a .e)) (l .i)) _ (l .inv .1 whole) (c .before .before .before .loop-test .taken)))
 
 returns-2 : tie.Need-returns-2 Inv-loop μ-loop
 unfolding findFrom
 returns-2 c =
     let a = c .before .before .before .args in
     let l = c .before .loop in
-    walk-end (a .t1 .entries) (c .before .before .before .pre) (l .i) (findFrom (about (a .e)) (l .i)) _ (l .inv .1) (c .loop-test .left)
+    λ whole. walk-end (a .t1) whole (l .i) (findFrom (about (a .e)) (l .i)) _ (l .inv .1 whole) (c .loop-test .left)
 
 pub find-spec : {M : Type 1} → statement M
 find-spec =
@@ -71,7 +71,7 @@ find-spec =
     key-of-requires
     loop-holds
     mul-r
-    element-copy-out-r
+    array-copy-out-r
     is-about-requires
     returns
     add-i
