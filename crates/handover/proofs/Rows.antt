@@ -92,8 +92,8 @@ rows =
     ∷ row 11 3 (λ e r deadline.
     decision 0 8 (says 5 (r .new .0) 0 r) (entry 4 (r .neighbour) (r .old .0) (r .new .0) (r .requested) (r .admitted) (r .status) (r .units) 0))
     ∷ row 11 4 untaken
-    -- 12: prepared ends, 5, silently; preparing: 6
-    ∷ row 12 2 (ends 5)
+    -- 12: prepared sends 6 with both IDs, reason 3, and ends, 5; preparing: 6
+    ∷ row 12 2 (λ e r deadline. decision 0 5 (says 6 (r .new .0) 3 r) blank)
     ∷ row 12 1 untaken
     -- 13: serving ends, 9; held: 6
     ∷ row 13 4 (ends 9)

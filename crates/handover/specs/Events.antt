@@ -187,13 +187,14 @@ serving r =
     }
 
 -- what the end of a record sends: "10: sends 6 (New if prepared, else absent)", reason 1; for 15 "preparing sends 6 with New
--- absent", reason 2; "prepared sends kind 20 with its neighbour and both IDs"
+-- absent", reason 2; "prepared sends kind 20 with its neighbour and both IDs"; for 12 "HANDOVER CANCEL with both IDs and reason 3"
 abbrev pub lastWord : Record → Entry → Record
 lastWord e r =
     cond (eqb (e .kind) 10)
     (message 6 (r .neighbour) (r .old .0) (cond (eqb (r .state) 2) (r .new .0) 65535) 0 0 1)
     (cond (eqb (e .kind) 15 && eqb (r .state) 1) (message 6 (r .neighbour) (r .old .0) 65535 0 0 2)
-    (cond (eqb (e .kind) 15 && eqb (r .state) 2) (message 20 (r .neighbour) (r .old .0) (r .new .0) 0 0 0) silence))
+    (cond (eqb (e .kind) 15 && eqb (r .state) 2) (message 20 (r .neighbour) (r .old .0) (r .new .0) 0 0 0)
+    (cond (eqb (e .kind) 12) (message 6 (r .neighbour) (r .old .0) (r .new .0) 0 0 3) silence)))
 
 -- the decision, given the deadline that an acknowledge would set
 abbrev pub decide : Record → Entry → ℕ → Decision

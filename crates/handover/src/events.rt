@@ -204,6 +204,8 @@ fn last_word(e: Record, r: Entry) -> Record
         message(6, r.neighbour, r.old, NewId(65535), 0, 0, 2)
     } else if (e.kind == 15) & (r.state == 2) {
         message(20, r.neighbour, r.old, r.new, 0, 0, 0)
+    } else if e.kind == 12 {
+        message(6, r.neighbour, r.old, r.new, 0, 0, 3)
     } else {
         silence()
     }

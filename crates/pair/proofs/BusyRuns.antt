@@ -11,7 +11,7 @@ use Rattle.promises.specs.Views.{named}
 use Rattle.pair.specs.Theorem.{Settled}
 use Rattle.pair.specs.World.{Side, A, B, Silent, Refused, Fixed, Handover, World, Run}
 use Rattle.pair.proofs.Scripts.{Move, does, gets, hears, missesAfter, played, playable, steps, run-on}
-use Rattle.pair.proofs.Runs.{peer, both, fresh, history, bearer, starts, grants, answered, unanswered, arrives, cancels, told, ticks}
+use Rattle.pair.proofs.Runs.{peer, both, fresh, history, bearer, starts, grants, answered, unanswered, arrives, returns, cancels, told, ticks}
 use Rattle.pair.proofs.Settling.{isSettled, settled}
 
 -- A run that is settled, and what is told of its end.
@@ -70,6 +70,21 @@ middle-lost =
     shows
     (starts ∷ starts ∷ starts ∷ missesAfter B 1 ∷ takesIn 40 ∷ takesIn 40 ∷ answered ∷ answered ∷ arrivesAs B 0 ∷ arrivesAs B 1
     ∷ answered ∷ answered ∷ ticks A 50 ∷ told ∷ [])
+    refl (refl, refl, refl)
+
+-- The UE of the first returns, and B takes the cancel: at once, without a tick, it grants all its 100 units to the second.
+pub returned-freed : Shows (λ w. (w .handovers A 1 ≡ history (Fixed 0 1) false false 5) × (w .handovers A 2 ≡ movedAs 1))
+unfolding played playable isSettled
+returned-freed = shows (starts ∷ grants ∷ answered ∷ returns ∷ told ∷ starts ∷ takesIn 100 ∷ answered ∷ arrivesAs B 1 ∷ answered ∷ []) refl (refl, refl)
+
+-- The cancel is lost: the units stay reserved, so that the second is refused them until the guard has run out, and the third gets them.
+pub returned-unfreed :
+    Shows (λ w. (w .handovers A 1 ≡ history (Fixed 0 1) false false 5) × (w .handovers A 2 ≡ history Refused false false 1) × (w .handovers A 3 ≡ movedAs 1))
+unfolding played playable isSettled
+returned-unfreed =
+    shows
+    (starts ∷ grants ∷ answered ∷ returns ∷ missesAfter B 0 ∷ starts ∷ takesIn 100 ∷ answered ∷ ticks B 3000 ∷ starts ∷ takesIn 100 ∷ answered
+    ∷ arrivesAs B 1 ∷ answered ∷ [])
     refl (refl, refl, refl)
 
 -- ---- a third neighbour, 3

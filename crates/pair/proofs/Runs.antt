@@ -8,6 +8,7 @@ use Rattle.laws.proofs.Tests.{both-true}
 use Rattle.records.specs.Record.{bytesOf}
 use Rattle.promises.specs.Cases as cases
 use Rattle.handover.specs.Events.{message}
+use Rattle.table.specs.declared.Answer.{Answer}
 use Rattle.table.specs.Step.{stepOf}
 use Rattle.promises.specs.Views.{Prepared, out}
 use Rattle.pair.specs.Theorem.{Settled, Settles}
@@ -136,6 +137,17 @@ pub late : replied (starts ∷ grants ∷ answered ∷ arrives ∷ returns ∷ [
 unfolding played
 late = refl
 
+-- ---- A's cancel of a UE that returned, which B takes when the UE has arrived after all: reply 2, and B is as it was
+
+abbrev pub cancelledAfter : List Move → Answer
+cancelledAfter script = stepOf (played peer both script .station B) (message 6 1 0 0 0 0 3) [] 256
+
+pub cancel-late :
+    let script = starts ∷ grants ∷ answered ∷ arrives ∷ returns ∷ [] in
+    (cancelledAfter script .outcome .reply ≡ 2) × (cancelledAfter script .station ≡ played peer both script .station B)
+unfolding played
+cancel-late = (refl, refl)
+
 -- ---- the UE arrived
 
 pub moved : Ends (Fixed 0 1) true true 3
@@ -152,10 +164,10 @@ pub cancelled-early : Ends (Fixed 0 1) true false 2
 unfolding outcome comesOut
 cancelled-early = ends (starts ∷ grants ∷ arrives ∷ unanswered ∷ answered ∷ ticks A 50 ∷ told ∷ []) [] refl refl
 
--- It comes too late.
+-- It comes too late, and so does A's cancel.
 pub returned-late : Ends (Fixed 0 1) true false 5
 unfolding outcome comesOut
-returned-late = ends (starts ∷ grants ∷ answered ∷ arrives ∷ returns ∷ answered ∷ []) [] refl refl
+returned-late = ends (starts ∷ grants ∷ answered ∷ arrives ∷ returns ∷ answered ∷ told ∷ []) [] refl refl
 
 pub overtime-late : Ends (Fixed 0 1) true false 4
 unfolding outcome comesOut
@@ -175,10 +187,15 @@ pub cancelled : Ends (Fixed 0 1) false false 2
 unfolding outcome comesOut
 cancelled = ends (starts ∷ grants ∷ answered ∷ cancels ∷ told ∷ []) [] refl refl
 
--- These leave B's reservation to its guard.
+-- B takes the cancel, and nothing is left for its guard.
 pub returned : Ends (Fixed 0 1) false false 5
 unfolding outcome comesOut
-returned = ends (starts ∷ grants ∷ answered ∷ returns ∷ []) ((B, 3000) ∷ []) refl refl
+returned = ends (starts ∷ grants ∷ answered ∷ returns ∷ told ∷ []) [] refl refl
+
+-- These leave B's reservation to its guard: the cancel is lost, or there is none.
+pub returned-lost : Ends (Fixed 0 1) false false 5
+unfolding outcome comesOut
+returned-lost = ends (starts ∷ grants ∷ answered ∷ returns ∷ misses B ∷ []) ((B, 3000) ∷ []) refl refl
 
 pub overtime : Ends (Fixed 0 1) false false 4
 unfolding outcome comesOut

@@ -37,12 +37,14 @@ last-formed : (e : Record) (r : Entry) → Bounded r → Formed (lastWord e r)
 last-formed e r b =
     let neighbour = used-in-range 31 (r .neighbour) (b .0) in
     let old = used-in-range 4095 (r .old .0) (b .1) in
+    let new = used-in-range 4095 (r .new .0) (b .2) in
     by-cases (eqb (e .kind) 10)
-    (λ t. by-cases (eqb (r .state) 2) (λ u. rw (t, u) (λ low high. rw (neighbour, old, used-in-range 4095 (r .new .0) (b .2)))) (λ u. rw (t, u) (λ low high. rw (neighbour, old))))
+    (λ t. by-cases (eqb (r .state) 2) (λ u. rw (t, u) (λ low high. rw (neighbour, old, new))) (λ u. rw (t, u) (λ low high. rw (neighbour, old))))
     (λ t.
     by-cases (eqb (e .kind) 15 && eqb (r .state) 1)
     (λ u. rw (t, u) (λ low high. rw (neighbour, old)))
-    (λ u. by-cases (eqb (e .kind) 15 && eqb (r .state) 2) (λ v. rw (t, u, v) (λ low high. absurd (omega arith))) (λ v. rw (t, u, v) unsent)))
+    (λ u. by-cases (eqb (e .kind) 15 && eqb (r .state) 2) (λ v. rw (t, u, v) (λ low high. absurd (omega arith)))
+    (λ v. by-cases (eqb (e .kind) 12) (λ x. rw (t, u, v, x) (λ low high. rw (neighbour, old, new))) (λ x. rw (t, u, v, x) unsent))))
 
 -- What is decided of a record sends a status, a release, or what ends it.
 decided-formed : (e : Record) (r : Entry) (deadline : ℕ) → wellFormed e ≡ true → Bounded r → Formed (decide e r deadline .message)

@@ -41,7 +41,8 @@ last-other : (e : Record) (r : Entry) → lastWord e r .kind ≡ 4 → ⊥
 last-other e r =
     by-cases (eqb (e .kind) 10) (λ t. rw t (λ four. omega arith))
     (λ t. by-cases (eqb (e .kind) 15 && eqb (r .state) 1) (λ u. rw (t, u) (λ four. omega arith))
-    (λ u. by-cases (eqb (e .kind) 15 && eqb (r .state) 2) (λ v. rw (t, u, v) (λ four. omega arith)) (λ v. rw (t, u, v) (λ four. omega arith))))
+    (λ u. by-cases (eqb (e .kind) 15 && eqb (r .state) 2) (λ v. rw (t, u, v) (λ four. omega arith))
+    (λ v. by-cases (eqb (e .kind) 12) (λ x. rw (t, u, v, x) (λ four. omega arith)) (λ x. rw (t, u, v, x) (λ four. omega arith)))))
 
 -- A status that is decided of a record is its.
 decided-status : (e : Record) (r : Entry) (deadline : ℕ) → decide e r deadline .message .kind ≡ 4 → StatusOf r (decide e r deadline .message)

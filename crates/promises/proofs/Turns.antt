@@ -116,7 +116,8 @@ last-other : (e : Record) (r : Entry) → isOther (lastWord e r .kind) ≡ true
 last-other e r =
     by-cases (eqb (e .kind) 10) (λ t. rw t)
     (λ t. by-cases (eqb (e .kind) 15 && eqb (r .state) 1) (λ u. rw (t, u))
-    (λ u. by-cases (eqb (e .kind) 15 && eqb (r .state) 2) (λ v. rw (t, u, v)) (λ v. rw (t, u, v))))
+    (λ u. by-cases (eqb (e .kind) 15 && eqb (r .state) 2) (λ v. rw (t, u, v))
+    (λ v. by-cases (eqb (e .kind) 12) (λ x. rw (t, u, v, x)) (λ x. rw (t, u, v, x)))))
 
 module _ (s : Station) (e : Record) where
   -- A refusal leaves all records as they were.
