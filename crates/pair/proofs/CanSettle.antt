@@ -21,7 +21,7 @@ use Rattle.promises.proofs.Replies.{nothing-due-sets-clock}
 use Rattle.promises.proofs.Ticks.{ticks, tick-nine, tick-ends, ticks-64}
 use Rattle.promises.specs.Views.{due, to, StepLaws}
 use Rattle.pair.specs.Theorem.{Empty, Past, Still, here, onward, NoneDueAt, Settles, Settled, AtRest}
-use Rattle.pair.specs.World.{Side, A, B, other, sides, nextIssue, Envelope, World, issuedAfter, marked, act, own, All, nothing, limit, WithinLimit, Bounded, withQueue, Acts, acts, loses, Course, begin, next, Limited, Run}
+use Rattle.pair.specs.World.{Side, A, B, other, sides, Envelope, World, issuedAfter, marked, act, own, All, nothing, limit, WithinLimit, Bounded, withQueue, Acts, acts, loses, Course, begin, next, Limited, Run}
 use Rattle.pair.proofs.Lists.{all-tail}
 use Rattle.pair.proofs.Posting.{all-posted}
 use Rattle.pair.proofs.Reaching.{on-sides, reached}
@@ -130,7 +130,7 @@ module _ (peer : Side → ℕ) where
     recent : Bounded (ticked w s)
     recent r q =
         let a = atLast w s in
-        let sent-last = marked a (nextIssue (w .numbers s)) none (w .fixedFor (other s)) (λ t. issuedAfter w s a t .issuedCount) in
+        let sent-last = marked a (w .numbers s) none (w .fixedFor (other s)) (λ t. issuedAfter w s a t .issuedCount) in
         let just : issuedAfter w s (atLast w s) q .issuedCount < issuedAfter w s (atLast w s) q .issuedCount + limit = omega arith in
         on-sides (λ t (messages : List Envelope). All (WithinLimit q (issuedAfter w s (atLast w s) q)) messages) s {there = w .queue (other s)}
         (all-posted (peer s) sent-last (w .queue s) (rw (ready .empty s) nothing) (λ t. just)) (rw (ready .empty (other s)) nothing) r

@@ -8,7 +8,7 @@ use Rattle.records.specs.declared.Record.{Record}
 use Rattle.table.specs.declared.Answer.{Answer}
 use Rattle.table.specs.declared.Station.{Station}
 use Rattle.promises.specs.Views.{issued, Laws, StepLaws}
-use Rattle.pair.specs.World.{Side, other, Numbers, nextIssue, Handover, Envelope, World, issuing, atSource, atTarget, fixing, marked, posted, Comes, All, WithinLimit}
+use Rattle.pair.specs.World.{Side, other, Numbers, Handover, Envelope, World, issuing, atSource, atTarget, fixing, marked, posted, Comes, All, WithinLimit}
 
 -- The source and the number under which it knows the target, the target and the number under which it knows the source, the messages to
 -- the target (requests are among them) and those to the source (answers and releases), and the history of the source's handovers.
@@ -65,7 +65,7 @@ module _ (s : Side) (d : Direction) (e : Record) (a : Answer) (taken : Option En
         towards = d .towards;
         target = d .target;
         back = d .back;
-        requests = d .requests ++ posted (d .towards) (marked a (nextIssue (d .numbers)) taken fixed stamp);
+        requests = d .requests ++ posted (d .towards) (marked a (d .numbers) taken fixed stamp);
         answers = rest;
         numbers = issuing (issued a) (d .numbers);
         fixedFor = d .fixedFor;
@@ -81,22 +81,22 @@ module _ (s : Side) (d : Direction) (e : Record) (a : Answer) (taken : Option En
     pub requests-timely : All (Timely s (issuing (issued a) (d .numbers))) (sourceAfter fixed .requests)
     pub answers-timely : All (Timely s (issuing (issued a) (d .numbers))) rest
 
-  -- The target takes an event, perhaps the oldest message to it. `issue` is its own next, as a source, and free here.
-  abbrev pub targetAfter : ℕ → Direction
-  targetAfter issue =
+  -- The target takes an event, perhaps the oldest message to it. `own` is what it has issued itself, as a source, and free here.
+  abbrev pub targetAfter : Numbers → Direction
+  targetAfter own =
       record {
         source = d .source;
         towards = d .towards;
         target = a .station;
         back = d .back;
         requests = rest;
-        answers = d .answers ++ posted (d .back) (marked a issue taken (d .fixedFor) stamp);
+        answers = d .answers ++ posted (d .back) (marked a own taken (d .fixedFor) stamp);
         numbers = d .numbers;
         fixedFor = fixing (d .back) a taken (d .fixedFor);
         handovers = λ h. atTarget (d .back) (d .target) e a taken (d .fixedFor) h (d .handovers h);
       }
 
-  pub record TargetStep (issue : ℕ) : Type 0 where
+  pub record TargetStep (own : Numbers) : Type 0 where
     pub laws : Laws (d .target)
     pub step : StepLaws (d .target) e a
     pub comes : Comes (d .back) e (d .requests) taken rest

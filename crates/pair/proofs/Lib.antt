@@ -16,6 +16,7 @@ pub mod Targets
 pub mod TargetTurn
 pub mod Reaching
 pub mod Rest
+pub mod Returning
 pub mod Scripts
 pub mod Settling
 pub mod Runs

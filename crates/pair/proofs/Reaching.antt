@@ -11,7 +11,7 @@ use Rattle.table.specs.declared.Answer.{Answer}
 use Rattle.table.specs.declared.Station.{Station}
 use Rattle.table.specs.Reached.{Reached, stepped}
 use Rattle.promises.specs.Views.{StepLaws}
-use Rattle.pair.specs.World.{Side, A, B, other, sides, nextIssue, Envelope, World, issuedAfter, act, Answers, Comes, All, nothing, withQueue, Acts, Loses, Step, acts, loses, start, Fresh, Course, begin, next, Limited, Run}
+use Rattle.pair.specs.World.{Side, A, B, other, sides, Envelope, World, issuedAfter, act, Answers, Comes, All, nothing, withQueue, Acts, Loses, Step, acts, loses, start, Fresh, Course, begin, next, Limited, Run}
 use Rattle.pair.proofs.Lists.{all-map}
 use Rattle.pair.proofs.Directions.{direction, Timely}
 use Rattle.pair.proofs.Invariant.{Invariant}
@@ -70,11 +70,11 @@ module _ (peer : Side → ℕ) where
         })
         (good .invariant A)
     turned A step comes after B =
-        target-turn {s = B} {d = direction peer w B} {stamp = λ r. issuedAfter w A a r .issuedCount} {issue = nextIssue (w .numbers A)}
+        target-turn {s = B} {d = direction peer w B} {stamp = λ r. issuedAfter w A a r .issuedCount} {own = w .numbers A}
         (record { laws = laws (good .reached A); step = step; comes = comes; stamped = refl; requests-timely = good .timely B B })
         (good .invariant B)
     turned B step comes after A =
-        target-turn {s = A} {d = direction peer w A} {stamp = λ r. issuedAfter w B a r .issuedCount} {issue = nextIssue (w .numbers B)}
+        target-turn {s = A} {d = direction peer w A} {stamp = λ r. issuedAfter w B a r .issuedCount} {own = w .numbers B}
         (record { laws = laws (good .reached B); step = step; comes = comes; stamped = refl; requests-timely = good .timely A A })
         (good .invariant A)
     turned B step comes after B =

@@ -42,7 +42,7 @@ module _ {s : Side} {d : Direction} {e : Record} {a : Answer} {taken : Option En
   -- ---- requests
 
   abbrev posting : Envelope
-  posting = marked a (nextIssue (d .numbers)) taken fixed stamp
+  posting = marked a (d .numbers) taken fixed stamp
 
   -- A request that is sent is of the handover that it starts.
   request-belongs : sent a .kind ≡ 1 → posting .tag ≡ nextIssue (d .numbers)

@@ -17,11 +17,11 @@ use Rattle.pair.proofs.Lists.{Pairs, all-any, all-map, all-head, all-ba
 -- ---- what a message brings
 
 module _ {p : ℕ} {m e : Record} where
-  carries-kind : Carries p m e → e .kind ≡ m .kind
+  pub carries-kind : Carries p m e → e .kind ≡ m .kind
   carries-kind (request was is neighbour old) = is ∙ sym was
   carries-kind (plain other same) = ap (λ r. r .kind) same
 
-  as-sent : Carries p m e → (m .kind ≡ 1 → ⊥) → e ≡ asSent p m
+  pub as-sent : Carries p m e → (m .kind ≡ 1 → ⊥) → e ≡ asSent p m
   as-sent (request was is neighbour old) other = absurd (other was)
   as-sent (plain other same) apart = same
 

@@ -14,7 +14,7 @@ use Rattle.records.specs.declared.Record.{Record}
 use Rattle.promises.proofs.Interface.{to-means}
 use Rattle.table.specs.declared.Answer.{Answer}
 use Rattle.promises.specs.Views.{Prepared, Incoming, NotHeld, Held, held, someHeld, sent, to}
-use Rattle.pair.specs.World.{Side, Answered, Refused, Fixed, Envelope, took, tagOf, arrivesFor, marked, isMessage}
+use Rattle.pair.specs.World.{Side, Numbers, Answered, Refused, Fixed, Envelope, took, tagOf, arrivesFor, marked, isMessage}
 use Rattle.pair.proofs.Posting.{posted-to, all-posted, pairs-posted}
 use Rattle.pair.proofs.Taking.{took-of, left, left-pairs, left-behind}
 use Rattle.pair.proofs.Directions.{Direction, targetAfter, TargetStep}
@@ -23,17 +23,17 @@ use Rattle.pair.proofs.Lists.{all-map, all-both}
 use Rattle.pair.proofs.Targets.{granting, denying, arriving, RequestOf, HeldAfter, kept, made, request-of, request-taken, held-after, same-answer, answer-once}
 
 -- a held record has its IDs
-held-ids : (v : Incoming) → someHeld v ≡ true → (old : ℕ) × (set : ℕ) × (v ≡ Held old set)
+pub held-ids : (v : Incoming) → someHeld v ≡ true → (old : ℕ) × (set : ℕ) × (v ≡ Held old set)
 held-ids NotHeld t = absurd (false≢true t)
 held-ids (Held old set) t = (old, set, refl)
 
-module _ {s : Side} {d : Direction} {e : Record} {a : Answer} {taken : Option Envelope} {rest : List Envelope} {stamp : Side → ℕ} {issue : ℕ}
-    (x : TargetStep s d e a taken rest stamp issue) (i : Invariant s d) where
+module _ {s : Side} {d : Direction} {e : Record} {a : Answer} {taken : Option Envelope} {rest : List Envelope} {stamp : Side → ℕ} {own : Numbers}
+    (x : TargetStep s d e a taken rest stamp own) (i : Invariant s d) where
   abbrev after : Direction
-  after = targetAfter s d e a taken rest stamp issue
+  after = targetAfter s d e a taken rest stamp own
 
   abbrev posting : Envelope
-  posting = marked a issue taken (d .fixedFor) stamp
+  posting = marked a own taken (d .fixedFor) stamp
 
   -- ---- what is told
 
@@ -274,7 +274,7 @@ module _ {s : Side} {d : Direction} {e : Record} {a : Answer} {taken : Option En
 
   -- ---- all
 
-  pub target-turn : Invariant s (targetAfter s d e a taken rest stamp issue)
+  pub target-turn : Invariant s (targetAfter s d e a taken rest stamp own)
   target-turn =
       record {
         used = i .used;

@@ -16,7 +16,7 @@ use Rattle.promises.proofs.Interface.{to-means}
 use Rattle.table.specs.declared.Answer.{Answer}
 use Rattle.table.specs.declared.Station.{Station}
 use Rattle.promises.specs.Views.{Held, held, sent, to, Shrinks, Grants, Denies, Arrives, Target, grants, denies, arrives, holds}
-use Rattle.pair.specs.World.{Side, Answered, Silent, Envelope, took, tagOf, limit, WithinLimit}
+use Rattle.pair.specs.World.{Side, Numbers, Answered, Silent, Envelope, took, tagOf, limit, WithinLimit}
 use Rattle.pair.proofs.Taking.{carries-request, taken-of, took-of, first-of}
 use Rattle.pair.proofs.Directions.{Direction, targetAfter, TargetStep}
 use Rattle.pair.proofs.Invariant.{kindOf, oldOf, reserved, Invariant}
@@ -65,8 +65,8 @@ pub data HeldAfter (d : Direction) (a : Answer) (h h' n old set : ℕ) : Type 0 
   kept : reserved d n ≡ Held old set → h' ≡ d .fixedFor n → HeldAfter d a h h' n old set
   made : to 2 (d .back) a ≡ true → n ≡ sent a .new .0 → old ≡ sent a .old .0 → set ≡ sent a .first → h' ≡ h → HeldAfter d a h h' n old set
 
-module _ {s : Side} {d : Direction} {e : Record} {a : Answer} {taken : Option Envelope} {rest : List Envelope} {stamp : Side → ℕ} {issue : ℕ}
-    (x : TargetStep s d e a taken rest stamp issue) (i : Invariant s d) where
+module _ {s : Side} {d : Direction} {e : Record} {a : Answer} {taken : Option Envelope} {rest : List Envelope} {stamp : Side → ℕ} {own : Numbers}
+    (x : TargetStep s d e a taken rest stamp own) (i : Invariant s d) where
   -- A request that was taken.
   pub request-of : (h : ℕ) → took 1 h taken ≡ true → RequestOf d (e .old .0) h
   request-of h t =
@@ -95,7 +95,7 @@ module _ {s : Side} {d : Direction} {e : Record} {a : Answer} {taken : Option En
       rw (t .is, eq-eqb (kindOf (t .first)) 1 (t .kind), eqb-same (t .first .tag))
 
   pub held-after : (n old set : ℕ) → held (a .station) (d .back) n ≡ Held old set
-      → HeldAfter d a (tagOf taken) (targetAfter s d e a taken rest stamp issue .fixedFor n) n old set
+      → HeldAfter d a (tagOf taken) (targetAfter s d e a taken rest stamp own .fixedFor n) n old set
   held-after n old set now =
       by-cases (to 2 (d .back) a)
       (λ t. let g = granting (x .step .target (d .back)) t in
@@ -110,11 +110,11 @@ module _ {s : Side} {d : Direction} {e : Record} {a : Answer} {taken : Option En
       (shrinking (x .step .target (d .back)) t n))
 
   -- An answer changes by a request only, and a request is not answered yet: so an answer once given stays.
-  pub same-answer : (h : ℕ) → took 1 h taken ≡ false → targetAfter s d e a taken rest stamp issue .handovers h .answer ≡ d .handovers h .answer
+  pub same-answer : (h : ℕ) → took 1 h taken ≡ false → targetAfter s d e a taken rest stamp own .handovers h .answer ≡ d .handovers h .answer
   same-answer h t = rw t
 
   pub answer-once : (h : ℕ) (answer : Answered) → (answer ≡ Silent → ⊥) → d .handovers h .answer ≡ answer
-      → targetAfter s d e a taken rest stamp issue .handovers h .answer ≡ answer
+      → targetAfter s d e a taken rest stamp own .handovers h .answer ≡ answer
   answer-once h answer given is =
       by-cases (took 1 h taken)
       (λ t. absurd (given (sym is ∙ request-of h t .unanswered)))

@@ -1,18 +1,19 @@
 -- The theorem of two stations: whatever they do and whatever is lost, both think the same of each handover.
-use Prim.Native.Nat.{ℕ, _≤_, _<_}
+use Prim.Native.Nat.{ℕ, _+_, _≤_, _<_}
 use mathlib.Core.Path.{_≡_}
 use mathlib.Core.Bool.{Bool, true, false, _||_}
-use mathlib.Core.List.{[], _∷_}
+use mathlib.Core.List.{[], _∷_, _++_}
 use mathlib.Core.Logic.{_↔_}
 use mathlib.Core.Option.{some}
 use lib.Dec.{eqb}
 use lib.ListN.{getD}
 use Rattle.records.specs.declared.Record.{Record}
 use Rattle.handover.specs.declared.Entry.{Entry}
+use Rattle.handover.specs.Events.{message}
 use Rattle.handover.specs.Numbers.{blank}
 use Rattle.table.specs.declared.Answer.{Answer}
-use Rattle.promises.specs.Views.{NotOut, Prepared, NotHeld, Held, someOut, out, held, due, to, isOtherEnding}
-use Rattle.pair.specs.World.{Side, other, Handover, Refused, Fixed, World, Answers, Acts, Step, acts, loses, Run}
+use Rattle.promises.specs.Views.{NotOut, Prepared, NotHeld, Held, someOut, someHeld, named, out, held, due, to, isOtherEnding}
+use Rattle.pair.specs.World.{Side, other, Handover, Refused, Fixed, Envelope, World, recordOf, Answers, Acts, Step, acts, loses, Run}
 
 -- an ending at the source: failed, moved, cancelled, overtime, returned or reset
 abbrev pub isEnding : ℕ → Bool
@@ -116,3 +117,52 @@ module _ (peer : Side → ℕ) where
     pub outgoing-asked : (w : World) → Run peer w → (s : Side) → OutgoingAsked w s
     pub settles : (w w' : World) → Run peer w → Settles w w' → (s : Side) → AtRest w' s
     pub settled : (w : World) → Run peer w → Settled w → (s : Side) → AtRest w s
+
+-- ---- a UE that returns
+
+module _ (peer : Side → ℕ) where
+  -- The UE of a handover returns to its source: kind 12 is done on the handover's record, which is prepared with this New ID.
+  pub record UeReturns (s : Side) (h number : ℕ) (w w' : World) : Type 0 where
+    pub event : Record
+    pub answer : Answer
+    pub acts : Acts peer w s event answer w'
+    pub kind : event .kind ≡ 12
+    pub done : answer .outcome .reply ≡ 0
+    pub old : w .numbers s .numberOf h ≡ event .old .0
+    pub set : ℕ
+    pub prepared : recordOf (w .numbers s) (out (w .station s) (peer s)) h ≡ Prepared number set
+
+  -- "On return the source shall also send HANDOVER CANCEL with both IDs and reason 3; the ending stays 5": it is under way to the target, and
+  -- belongs to the handover.
+  pub record CancelSent (s : Side) (h number : ℕ) (w w' : World) : Type 0 where
+    pub cancel : Envelope
+    pub queued : w' .queue s ≡ w .queue s ++ (cancel ∷ [])
+    pub word : cancel .message ≡ message 6 (peer s) (w .numbers s .numberOf h) number 0 0 3
+    pub belongs : cancel .tag ≡ h
+    pub ended : w' .handovers s h .endings ≡ 5 ∷ []
+
+  -- The target takes a cancel that belongs to a handover.
+  pub record CancelTaken (s : Side) (h : ℕ) (w w' : World) : Type 0 where
+    pub event : Record
+    pub answer : Answer
+    pub acts : Acts peer w (other s) event answer w'
+    pub cancel : Envelope
+    pub taken : acts .taken ≡ some cancel
+    pub kind : cancel .message .kind ≡ 6
+    pub belongs : cancel .tag ≡ h
+
+  -- the record with this New ID is a reservation of the target for a handover of the source
+  abbrev pub ReservedFor : World → Side → ℕ → ℕ → Type 0
+  ReservedFor w s h number =
+      (someHeld (held (w .station (other s)) (peer (other s)) number) ≡ true) × (w .fixedFor s number ≡ h)
+
+  -- It has none for the handover any more, and the units of the one that it had are free: in this very step, whatever its clock says.
+  pub record Freed (s : Side) (h : ℕ) (w w' : World) : Type 0 where
+    pub no-reservation : (number : ℕ) → ReservedFor w' s h number → ⊥
+    pub units : (number : ℕ) → ReservedFor w s h number
+        → w' .station (other s) .used + named number (w .station (other s)) .units ≡ w .station (other s) .used
+
+  -- The law of a UE that returns: its source tells the target, and the target that takes it frees what it held for the handover.
+  pub record ReturnFrees : Type 0 where
+    pub sent : (w w' : World) → Run peer w → (s : Side) (h number : ℕ) → UeReturns s h number w w' → CancelSent s h number w w'
+    pub freed : (w w' : World) → Run peer w → (s : Side) (h : ℕ) → CancelTaken s h w w' → Freed s h w w'

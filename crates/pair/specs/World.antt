@@ -184,15 +184,16 @@ abbrev pub fixing : ℕ → Answer → Option Envelope → (ℕ → ℕ) → ℕ
 fixing p a taken fixed n = cond (to 2 p a && eqb n (sent a .new .0)) (tagOf taken) (fixed n)
 
 -- The handover to which a message belongs: a request to the one that it starts, an answer to that of the request taken, a release
--- to that for which its New ID was fixed.
-abbrev pub belongs : ℕ → Option Envelope → (ℕ → ℕ) → Record → ℕ
-belongs issue taken fixed m =
-    cond (eqb (m .kind) 1) issue
-    (cond (eqb (m .kind) 2 || eqb (m .kind) 3) (tagOf taken) (cond (eqb (m .kind) 5) (fixed (m .new .0)) 0))
+-- to that for which its New ID was fixed, a cancel to the last that got its Old ID.
+abbrev pub belongs : Numbers → Option Envelope → (ℕ → ℕ) → Record → ℕ
+belongs n taken fixed m =
+    cond (eqb (m .kind) 1) (nextIssue n)
+    (cond (eqb (m .kind) 2 || eqb (m .kind) 3) (tagOf taken)
+    (cond (eqb (m .kind) 5) (fixed (m .new .0)) (cond (eqb (m .kind) 6) (n .issueOf (m .old .0)) 0)))
 
 -- the message that a step sends, with its marks
-abbrev pub marked : Answer → ℕ → Option Envelope → (ℕ → ℕ) → (Side → ℕ) → Envelope
-marked a issue taken fixed stamp = record { message = sent a; tag = belongs issue taken fixed (sent a); stamp = stamp }
+abbrev pub marked : Answer → Numbers → Option Envelope → (ℕ → ℕ) → (Side → ℕ) → Envelope
+marked a n taken fixed stamp = record { message = sent a; tag = belongs n taken fixed (sent a); stamp = stamp }
 
 -- ==== the world
 
@@ -230,7 +231,7 @@ module _ (peer : Side → ℕ) where
         station = sides s (a .station) (w .station (other s));
         queue =
             sides s
-            (w .queue s ++ posted (peer s) (marked a (nextIssue (w .numbers s)) taken (w .fixedFor (other s)) (λ r. issuedAfter w s a r .issuedCount)))
+            (w .queue s ++ posted (peer s) (marked a (w .numbers s) taken (w .fixedFor (other s)) (λ r. issuedAfter w s a r .issuedCount)))
             rest;
         numbers = issuedAfter w s a;
         fixedFor = sides s (w .fixedFor s) (fixing (peer s) a taken (w .fixedFor (other s)));

@@ -39,7 +39,7 @@ use Rattle.promises.proofs.Viewing.{named-at, named-none, own-sole}
 -- ---- a release
 
 -- What it is for a record to be seen prepared.
-prepared-means : (p n admitted : ℕ) (r : Entry) → outOf p r ≡ Prepared n admitted → (r .state ≡ 2) × (eqb (r .neighbour) p ≡ true) × (r .new .0 ≡ n)
+pub prepared-means : (p n admitted : ℕ) (r : Entry) → outOf p r ≡ Prepared n admitted → (r .state ≡ 2) × (eqb (r .neighbour) p ≡ true) × (r .new .0 ≡ n)
 prepared-means p n admitted r prepared =
     by-cases (eqb (r .state) 1 && eqb (r .neighbour) p)
     (λ t. let never : Preparing ≡ Prepared n admitted = rw t at prepared in clash cc)
@@ -73,7 +73,7 @@ module _ (s : Station) (sound : Sound s) (p i n j : ℕ) (place : j < 64) (its :
       found ∙ ap At (about-once (release p i n) (omega arith) (omega arith) s sound k j (found-place s sound its-own k found) place (found-here its-own s k found .1) mine))
 
 -- Where its place is free, no record has its own ID.
-gone : (s : Station) → Sound s → (i j : ℕ) → j < 64 → ownIs i (getD (s .entries) j blank) ≡ true → Sound (put j blank s) → named i (put j blank s) ≡ blank
+pub gone : (s : Station) → Sound s → (i j : ℕ) → j < 64 → ownIs i (getD (s .entries) j blank) ≡ true → Sound (put j blank s) → named i (put j blank s) ≡ blank
 gone s sound i j place its after =
     named-none (put j blank s) after i
     (set-each (λ k x. k < 64 → ownIs i x ≡ false) (s .entries) j blank (omega (arith, sound .places)) (λ _. refl)

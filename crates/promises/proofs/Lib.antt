@@ -1,6 +1,7 @@
 pub mod Answers
 pub mod Balance
 pub mod Bounds
+pub mod Cancels
 pub mod Cases
 pub mod Full
 pub mod Guests
