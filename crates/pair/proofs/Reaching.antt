@@ -11,7 +11,7 @@ use Rattle.table.specs.declared.Answer.{Answer}
 use Rattle.table.specs.declared.Station.{Station}
 use Rattle.table.specs.Reached.{Reached, stepped}
 use Rattle.promises.specs.Views.{StepLaws}
-use Rattle.pair.specs.World.{Side, A, B, other, sides, Envelope, World, issuedAfter, act, Answers, Comes, All, nothing, withQueue, Acts, Loses, Step, acts, loses, start, Fresh, Course, begin, next, Limited, Run}
+use Rattle.pair.specs.World.{Side, A, B, other, sides, Envelope, World, issuedAfter, act, Answers, Comes, All, nothing, withQueue, Acts, Loses, Step, acts, loses, start, Fresh, Bounded, Course, begin, next, Limited, Run}
 use Rattle.pair.proofs.Lists.{all-map}
 use Rattle.pair.proofs.Directions.{direction, Timely}
 use Rattle.pair.proofs.Invariant.{Invariant}
@@ -41,6 +41,9 @@ answer-reached {e = e} reached range y = rw (y .stepped) (stepped reached e rang
 -- Every request and every answer under way is within the limit.
 abbrev pub AllTimely : World → Type 0
 AllTimely w = (r s : Side) → All (Timely s (w .numbers s)) (w .queue r)
+
+pub bounded-timely : (w : World) → Bounded w → AllTimely w
+bounded-timely w bounded r s = all-map (λ m within low high. within) (bounded r s)
 
 module _ (peer : Side → ℕ) where
   -- Whatever the history says, each station is one that a fresh one reached: its steps look at nothing else.
@@ -117,7 +120,7 @@ module _ (peer : Side → ℕ) where
 
   along : {w : World} (c : Course peer w) → Limited peer c → Good w
   along (begin stations new) limited = first stations new
-  along (next before step) limited = stepping (along before (limited .0)) step (λ r s. all-map (λ m within low high. within) (limited .1 r s))
+  along (next {w' = w'} before step) limited = stepping (along before (limited .0)) step (bounded-timely w' (limited .1))
 
   pub reached : {w : World} → Run peer w → Good w
   reached run = along (run .course) (run .limited)

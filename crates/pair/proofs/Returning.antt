@@ -1,12 +1,12 @@
 -- The law of a UE that returns. A cancel under way has the Old ID of its handover, and the New ID that the target fixed for it or none; so the
 -- target that takes it finds the record that it holds for that handover, and no other.
 use Prim.Native.Nat.{ℕ, _≤_}
-use mathlib.Core.Path.{_≡_, sym, ap, _∙_}
+use mathlib.Core.Path.{_≡_, refl, sym, ap, _∙_}
 use mathlib.Core.Bool.{true, false, _&&_, false≢true}
 use mathlib.Core.List.{List, [], _∷_, _++_}
 use mathlib.Core.Logic.{_⊎_, inl, inr, ⊎-elim}
 use mathlib.Core.Option.{Option, some}
-use borrow.Author.Tests.{eqb-true, eq-eqb}
+use borrow.Author.Tests.{eqb-true, eqb-false, eq-eqb}
 use store.Seg.{eqb-same}
 use native.Mathlib.Omega.{arith}
 use lib.Dec.{leb, eqb}
@@ -17,25 +17,26 @@ use Rattle.handover.specs.Events.{message}
 use Rattle.table.specs.declared.Answer.{Answer}
 use Rattle.table.specs.declared.Station.{Station}
 use Rattle.table.specs.Reached.{Reached}
-use Rattle.promises.specs.Views.{Prepared, Held, someOut, someHeld, out, held, sent, to, issued, Laws, StepLaws}
+use Rattle.promises.specs.Views.{Prepared, Held, someOut, someHeld, out, held, sent, to, issued, Grants, Laws, StepLaws}
 use Rattle.promises.proofs.Cancels.{CancelOf, cancel-sent, Returns, return-sends, GivenOrAbsent, Frees, cancel-frees}
 use Rattle.promises.proofs.Interface.{laws}
-use Rattle.pair.specs.Theorem.{UeReturns, CancelSent, CancelTaken, Freed, ReturnFrees}
-use Rattle.pair.specs.World.{Side, A, B, other, Numbers, Fixed, Handover, Envelope, World, Answers, Comes, Step, acts, loses, asSent, took, fixing, marked, isMessage, act, issuedAfter, All, nothing, Course, begin, next, Limited}
+use Rattle.pair.specs.Theorem.{UeReturns, CancelSent, CancelTaken, ReservedFor, Freed, Later, now, on, ReturnFrees}
+use Rattle.pair.specs.World.{Side, A, B, other, Numbers, Answered, Silent, Fixed, Handover, Envelope, World, Answers, Comes, Step, acts, loses, asSent, took, tagOf, fixing, marked, isMessage, act, issuedAfter, All, nothing, Course, begin, next, Limited}
 use Rattle.pair.proofs.Lists.{all-map}
 use Rattle.pair.proofs.Loss.{all-fewer}
 use Rattle.pair.proofs.Ledger.{number-kept, count-grows}
 use Rattle.pair.proofs.Posting.{all-posted}
-use Rattle.pair.proofs.Taking.{carries-kind, as-sent, took-of, first-of, left}
+use Rattle.pair.proofs.Taking.{carries-kind, as-sent, taken-of, took-of, first-of, left}
 use Rattle.pair.proofs.Directions.{Direction, direction, sourceAfter, targetAfter}
 use Rattle.pair.proofs.Invariant.{kindOf, oldOf, newOf, outgoing, reserved, recordFor, Invariant}
-use Rattle.pair.proofs.Reaching.{remain, answer-laws, Good, reached}
+use Rattle.pair.proofs.Reaching.{remain, answer-laws, bounded-timely, Good, stepping, reached}
 use Rattle.pair.proofs.SourceFacts.{record-there, record-is}
 use Rattle.pair.proofs.Targets.{granting, shrinking}
 use Rattle.pair.proofs.TargetTurn.{held-ids}
 
 -- ---- cancels under way
 
+-- a cancel: it has the Old ID of its handover, and the New ID that the target fixed for that or none; it says nothing else but its reason
 record Cancelled (n : Numbers) (told : ℕ → Handover) (m : Envelope) : Type 0 where
   counted : m .tag ≤ n .issuedCount
   numbered : n .numberOf (m .tag) ≡ oldOf m
@@ -92,14 +93,12 @@ module _ {s : Side} {d : Direction} (e : Record) (a : Answer) (taken : Option En
   abbrev targeted : Direction
   targeted = targetAfter s d e a taken rest stamp own
 
-  fixed-stays : (h n set : ℕ) → d .handovers h .answer ≡ Fixed n set → targeted .handovers h .answer ≡ Fixed n set
-  fixed-stays h n set is =
+  answer-stays : (h : ℕ) (answer : Answered) → (answer ≡ Silent → ⊥) → d .handovers h .answer ≡ answer → targeted .handovers h .answer ≡ answer
+  answer-stays h answer given is =
       by-cases (took 1 h taken)
       (λ t.
       let found = took-of 1 h comes t in
-      let unanswered = first-of (found .0) (inv .requests) (found .0 .kind) .unanswered in
-      let same = found .1 in
-      clash (cc))
+      absurd (given (sym is ∙ ap (λ k. d .handovers k .answer) (sym (found .1)) ∙ first-of (found .0) (inv .requests) (found .0 .kind) .unanswered)))
       (λ t. rw t is)
 
   target-keeps : (m : Envelope) → Cancelled (d .numbers) (d .handovers) m → Cancelled (d .numbers) (targeted .handovers) m
@@ -107,7 +106,7 @@ module _ {s : Side} {d : Direction} (e : Record) (a : Answer) (taken : Option En
       record {
         counted = was .counted;
         numbered = was .numbered;
-        fixed = ⊎-elim inl (λ is. inr (is .0, fixed-stays (m .tag) (newOf m) (is .0) (is .1))) (was .fixed);
+        fixed = ⊎-elim inl (λ is. inr (is .0, answer-stays (m .tag) (Fixed (newOf m) (is .0)) (λ z. clash (cc)) (is .1))) (was .fixed);
         word = was .word;
       }
 
@@ -188,6 +187,41 @@ module _ {s : Side} {d : Direction} (e : Record) (a : Answer) (taken : Option En
             (ap (λ (k : ℕ). 5 ∷ d .handovers k .endings) (sym (there .0)) ∙ ap (λ zs. 5 ∷ zs) none-before);
       }
 
+-- ---- what is over stays over
+
+-- a handover was answered, and nothing is held for it
+abbrev Over : ℕ → Direction → Type 0
+Over h d = (d .handovers h .answer ≡ Silent → ⊥) × ((n : ℕ) → someHeld (reserved d n) ≡ true → d .fixedFor n ≡ h → ⊥)
+
+-- A record is held for the handover of a request that is taken, and that is not answered yet.
+module _ {s : Side} {d : Direction} (e : Record) (a : Answer) (taken : Option Envelope) (rest : List Envelope) (stamp : Side → ℕ) (own : Numbers)
+    (inv : Invariant s d) (step : StepLaws (d .target) e a) (comes : Comes (d .back) e (d .requests) taken rest) (h : ℕ) where
+  abbrev later : Direction
+  later = targetAfter s d e a taken rest stamp own
+
+  answered-stays : (d .handovers h .answer ≡ Silent → ⊥) → later .handovers h .answer ≡ Silent → ⊥
+  answered-stays known silent = known (sym (answer-stays e a taken rest stamp own inv comes h (d .handovers h .answer) known refl) ∙ silent)
+
+  over-stays : Over h d → Over h later
+  over-stays over = (answered-stays (over .0), none)
+    where
+      -- the record that is granted would be for this handover
+      granted : Grants (d .back) (d .target) e a → tagOf taken ≡ h → ⊥
+      granted g for =
+          let got = taken-of 1 (omega arith) (omega arith) (g .kind) (g .neighbour) comes in
+          over .0 (ap (λ k. d .handovers k .answer) (sym for ∙ ap tagOf (got .is)) ∙ first-of got (inv .requests) (got .kind) .unanswered)
+
+      none : (n : ℕ) → someHeld (reserved later n) ≡ true → later .fixedFor n ≡ h → ⊥
+      none n is for =
+          by-cases (to 2 (d .back) a)
+          (λ t.
+          let g = granting (step .target (d .back)) t in
+          by-cases (eqb n (sent a .new .0)) (λ u. granted g (rw (t, u) at for))
+          (λ u. over .1 n (ap someHeld (sym (g .others n (eqb-false n (sent a .new .0) u))) ∙ is) (rw (t, u) at for)))
+          (λ t.
+          ⊎-elim (λ same. over .1 n (ap someHeld (sym same) ∙ is) (rw t at for)) (λ gone. false≢true (sym (ap someHeld gone) ∙ is))
+          (shrinking (step .target (d .back)) t n))
+
 -- ---- in every world that is reached
 
 answer-cancel : {x : Station} {e : Record} {a : Answer} → Reached x → Answers x e a → sent a .kind ≡ 6 → CancelOf x (sent a)
@@ -209,13 +243,33 @@ module _ (peer : Side → ℕ) where
     turned B answers comes B =
         source-cancels e a taken rest (λ r. issuedAfter w B a r .issuedCount) (w .fixedFor A) (good .invariant B) (laws (good .reached B)) (answer-cancel (good .reached B) answers) (cancels B)
 
-  stepping : {w w' : World} → Good peer w → AllCancels w → Step peer w w' → AllCancels w'
-  stepping good cancels (acts s e a x) = rw (x .becomes) (turned good cancels e a (x .taken) (x .rest) s (x .answers) (x .comes))
-  stepping {w} good cancels (loses s x) = λ r. all-fewer (remain w s x r) (cancels r)
+  cancels-step : {w w' : World} → Good peer w → AllCancels w → Step peer w w' → AllCancels w'
+  cancels-step good cancels (acts s e a x) = rw (x .becomes) (turned good cancels e a (x .taken) (x .rest) s (x .answers) (x .comes))
+  cancels-step {w} good cancels (loses s x) = λ r. all-fewer (remain w s x r) (cancels r)
 
   along : {w : World} (c : Course peer w) → Limited peer c → AllCancels w
   along (begin stations new) limited = λ r. nothing
-  along (next before step) limited = stepping (reached peer (record { course = before; limited = limited .0 })) (along before (limited .0)) step
+  along (next before step) limited = cancels-step (reached peer (record { course = before; limited = limited .0 })) (along before (limited .0)) step
+
+  module _ {v : World} (good : Good peer v) (e : Record) (a : Answer) (taken : Option Envelope) (rest : List Envelope) (h : ℕ) where
+    over-turned : (r s : Side) → Answers (v .station s) e a → Comes (peer s) e (v .queue (other s)) taken rest
+        → Over h (direction peer v r) → Over h (direction peer (act peer v s e a taken rest) r)
+    over-turned A A answers comes over = over
+    over-turned B B answers comes over = over
+    over-turned A B answers comes over =
+        over-stays e a taken rest (λ r. issuedAfter v B a r .issuedCount) (v .numbers B) (good .invariant A) (answer-laws (good .reached B) answers) comes h over
+    over-turned B A answers comes over =
+        over-stays e a taken rest (λ r. issuedAfter v A a r .issuedCount) (v .numbers A) (good .invariant B) (answer-laws (good .reached A) answers) comes h over
+
+  over-step : {v w' : World} → Good peer v → (h : ℕ) (r : Side) → Step peer v w' → Over h (direction peer v r) → Over h (direction peer w' r)
+  over-step good h r (acts s e a x) over = rw (x .becomes) (over-turned good e a (x .taken) (x .rest) h r s (x .answers) (x .comes) over)
+  over-step good h r (loses s x) over = over
+
+  over-later : {w v : World} → Good peer w → (h : ℕ) (r : Side) → Over h (direction peer w r) → Later peer w v → Good peer v × Over h (direction peer v r)
+  over-later good h r over now = (good, over)
+  over-later good h r over (on {w' = w'} before step bounded) =
+      let so-far = over-later good h r over before in
+      (stepping peer (so-far .0) step (bounded-timely w' bounded), over-step (so-far .0) h r step (so-far .1))
 
   -- ---- the law
 
@@ -260,9 +314,34 @@ module _ (peer : Side → ℕ) where
                 frees (good .invariant B) (good .reached A) (y .range) (y .answers) (y .comes) (cancels B) h took-it n (was .0) (was .1) (was .2) (both .1) .units;
           })
 
+      answered-of : (s : Side) → CancelTaken peer s h w w' → (w .handovers s h .answer ≡ Silent → ⊥) → w' .handovers s h .answer ≡ Silent → ⊥
+      answered-of A x known =
+          let y = x .acts in
+          rw (y .becomes)
+          (answered-stays (x .event) (x .answer) (y .taken) (y .rest) (λ r. issuedAfter w B (x .answer) r .issuedCount) (w .numbers B)
+          (good .invariant A) (answer-laws (good .reached B) (y .answers)) (y .comes) h known)
+      answered-of B x known =
+          let y = x .acts in
+          rw (y .becomes)
+          (answered-stays (x .event) (x .answer) (y .taken) (y .rest) (λ r. issuedAfter w A (x .answer) r .issuedCount) (w .numbers A)
+          (good .invariant B) (answer-laws (good .reached A) (y .answers)) (y .comes) h known)
+
+      -- What was held was answered, so it stays over.
+      over-of : (s : Side) (number : ℕ) → CancelTaken peer s h w w' → ReservedFor peer w s h number → Over h (direction peer w' s)
+      over-of s number x had =
+          let was = held-ids (held (w .station (other s)) (peer (other s)) number) (had .0) in
+          let fixed = good .invariant s .held number (was .0) (was .1) (was .2) .1 in
+          let same = had .1 in
+          (answered-of s x (λ silent. clash (cc)), λ n is for. freed-of s x .no-reservation n (is, for))
+
   pub return-frees : ReturnFrees peer
   return-frees =
       record {
         sent = λ w w' run s h number. sent-of (reached peer run) h s number;
         freed = λ w w' run s h. freed-of (reached peer run) h (along (run .course) (run .limited)) s;
+        for-good = λ w w' v run s h number x had bounded later n both.
+            let good = reached peer run in
+            let after = stepping peer good (acts (other s) (x .event) (x .answer) (x .acts)) (bounded-timely w' bounded) in
+            let over = over-of good h (along (run .course) (run .limited)) s number x had in
+            over-later after h s over later .1 .1 n (both .0) (both .1);
       }

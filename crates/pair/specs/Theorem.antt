@@ -13,7 +13,7 @@ use Rattle.handover.specs.Events.{message}
 use Rattle.handover.specs.Numbers.{blank}
 use Rattle.table.specs.declared.Answer.{Answer}
 use Rattle.promises.specs.Views.{NotOut, Prepared, NotHeld, Held, someOut, someHeld, named, out, held, due, to, isOtherEnding}
-use Rattle.pair.specs.World.{Side, other, Handover, Refused, Fixed, Envelope, World, recordOf, Answers, Acts, Step, acts, loses, Run}
+use Rattle.pair.specs.World.{Side, other, Handover, Refused, Fixed, Envelope, World, recordOf, Answers, Acts, Step, acts, loses, Bounded, Run}
 
 -- an ending at the source: failed, moved, cancelled, overtime, returned or reset
 abbrev pub isEnding : ℕ → Bool
@@ -162,7 +162,15 @@ module _ (peer : Side → ℕ) where
     pub units : (number : ℕ) → ReservedFor w s h number
         → w' .station (other s) .used + named number (w .station (other s)) .units ≡ w .station (other s) .used
 
-  -- The law of a UE that returns: its source tells the target, and the target that takes it frees what it held for the handover.
+  -- the worlds that are reached from one, within the limit
+  pub data Later (w : World) : World → Type 0 where
+    now : Later w w
+    on : {v w' : World} → Later w v → Step peer v w' → Bounded w' → Later w w'
+
+  -- The law of a UE that returns: its source tells the target, the target that takes it frees what it held for the handover, and holds
+  -- nothing for it ever after.
   pub record ReturnFrees : Type 0 where
     pub sent : (w w' : World) → Run peer w → (s : Side) (h number : ℕ) → UeReturns s h number w w' → CancelSent s h number w w'
     pub freed : (w w' : World) → Run peer w → (s : Side) (h : ℕ) → CancelTaken s h w w' → Freed s h w w'
+    pub for-good : (w w' v : World) → Run peer w → (s : Side) (h number : ℕ) → CancelTaken s h w w' → ReservedFor w s h number
+        → Bounded w' → Later w' v → (n : ℕ) → ReservedFor v s h n → ⊥
