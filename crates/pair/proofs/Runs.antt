@@ -3,15 +3,15 @@
 use Prim.Native.Nat.{ℕ}
 use mathlib.Core.Path.{_≡_, refl}
 use mathlib.Core.Bool.{Bool, true, false, _&&_}
-use mathlib.Core.List.{List, [], _∷_}
+use mathlib.Core.List.{List, [], _∷_, map}
 use Rattle.laws.proofs.Tests.{both-true}
 use Rattle.records.specs.Record.{bytesOf}
 use Rattle.promises.specs.Cases as cases
 use Rattle.handover.specs.Events.{message}
 use Rattle.table.specs.declared.Answer.{Answer}
 use Rattle.table.specs.Step.{stepOf}
-use Rattle.promises.specs.Views.{Prepared, out}
-use Rattle.pair.specs.Theorem.{Settled, Settles}
+use Rattle.promises.specs.Views.{Prepared, NotHeld, out, held}
+use Rattle.pair.specs.Theorem.{Settled, Settles, ReservedFor}
 use Rattle.pair.specs.World.{Side, A, B, Answered, Silent, Refused, Fixed, Handover, World, start, Run, begin}
 use Rattle.pair.proofs.Scripts.{Move, does, hears, misses, played, playable, steps, run-on}
 use Rattle.pair.proofs.Settling.{tick, isSettled, settled, ended, maySettle, settles, settled-run}
@@ -137,11 +137,21 @@ pub late : replied (starts ∷ grants ∷ answered ∷ arrives ∷ returns ∷ [
 unfolding played
 late = refl
 
--- ---- A's cancel of a UE that returned, which B takes when the UE has arrived after all: reply 2, and B is as it was
+-- ---- A's cancel of a UE that returned
+
+-- B takes it while it holds the reservation: that is handover 1's, and so is the cancel, and its 60 units are free in that step.
+pub cancel-in-time :
+    let before = played peer both (starts ∷ grants ∷ answered ∷ returns ∷ []) in
+    let after = played peer both (starts ∷ grants ∷ answered ∷ returns ∷ told ∷ []) in
+    ReservedFor peer before A 1 0 × (before .station B .used ≡ 60) × (map (λ m. m .tag) (before .queue A) ≡ 1 ∷ [])
+    × (held (after .station B) 1 0 ≡ NotHeld) × (after .station B .used ≡ 0)
+unfolding played
+cancel-in-time = ((refl, refl), refl, refl, refl, refl)
 
 abbrev pub cancelledAfter : List Move → Answer
 cancelledAfter script = stepOf (played peer both script .station B) (message 6 1 0 0 0 0 3) [] 256
 
+-- B takes it when the UE has arrived after all: reply 2, and B is as it was.
 pub cancel-late :
     let script = starts ∷ grants ∷ answered ∷ arrives ∷ returns ∷ [] in
     (cancelledAfter script .outcome .reply ≡ 2) × (cancelledAfter script .station ≡ played peer both script .station B)
