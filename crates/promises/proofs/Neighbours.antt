@@ -4,7 +4,8 @@ use mathlib.Core.Path.{_≡_, refl, _∙_, sym, ap}
 use mathlib.Core.Bool.{true, false, not, _&&_, true≢false}
 use mathlib.Core.Logic.{_⊎_, ⊎-elim}
 use mathlib.Core.List.{List}
-use borrow.Author.Tests.{eqb-true, eqb-false, eq-eqb, le-leb}
+use borrow.Author.Tests.{eqb-true, eqb-false, eq-eqb, le-leb, leb-true, leb-false}
+use native.Mathlib.Omega.{arith}
 use lib.Dec.{leb, eqb}
 use lib.ListN.{getD}
 use lib.Seq.{getD-set-other}
@@ -26,9 +27,19 @@ use Rattle.table.proofs.Fits.{decided-keeps}
 use Rattle.handover.proofs.Keys.{isOf}
 use Rattle.handover.proofs.Resets.{reset-ends}
 use Rattle.table.proofs.Resetting.{reset-at}
-use Rattle.promises.proofs.Rows.{step-reset}
+use Rattle.promises.proofs.Rows.{step-reset, response-step}
 use Rattle.handover.proofs.Senders.{concernsNeighbour, about-of}
 use Rattle.promises.proofs.Strangers.{answers-concern, step-about}
+
+-- A message of a kind up to 8 is malformed, or of a kind up to 6, or a reset, or the response to one.
+pub by-message : {G : Type 0} (e : Record) → e .kind ≤ 8 → (wellFormed e ≡ false → G) → (wellFormed e ≡ true → e .kind ≤ 6 → G)
+    → (wellFormed e ≡ true → e .kind ≡ 7 → G) → (wellFormed e ≡ true → e .kind ≡ 8 → G) → G
+by-message e high malformed message reset response =
+    by-cases (wellFormed e)
+    (λ formed. by-cases (leb (e .kind) 6) (λ t. message formed (leb-true (e .kind) 6 t))
+    (λ t. by-cases (eqb (e .kind) 7) (λ u. reset formed (eqb-true (e .kind) 7 u))
+    (λ u. response formed (omega (arith, leb-false (e .kind) 6 t, eqb-false (e .kind) 7 u)))))
+    malformed
 
 -- ---- what it changes
 
@@ -40,6 +51,10 @@ pub record OthersKept (n : ℕ) (s after : Station) : Type 0 where
   pub last : after .last ≡ s .last
   pub settings : after .settings ≡ s .settings
 
+-- Where nothing changes, all is kept.
+kept : (n : ℕ) (s : Station) → OthersKept n s s
+kept n s = record { others = λ _ _. refl; its = λ _ of _. of; clock = refl; last = refl; settings = refl }
+
 -- An event that concerns a neighbour is not about a record that is not that neighbour's.
 not-about : (e : Record) (r : Entry) → concernsNeighbour (e .kind) ≡ true → isOf (e .neighbour) r ≡ false → about e r ≡ false
 not-about e r concerns other =
@@ -47,8 +62,7 @@ not-about e r concerns other =
 
 module _ (s : Station) (e : Record) (concerns : concernsNeighbour (e .kind) ≡ true) where
   about-keeps : (found : Found) → find (about e) s ≡ found → OthersKept (e .neighbour) s (aboutOne e found s .station)
-  about-keeps Nothing _ =
-      record { others = λ _ _. refl; its = λ _ of _. of; clock = refl; last = refl; settings = refl }
+  about-keeps Nothing _ = kept (e .neighbour) s
   about-keeps (At k) found =
       let here = found-here (about e) s k found in
       let x = getD (s .entries) k blank in
@@ -75,13 +89,7 @@ module _ (s : Station) (e : Record) (concerns : concernsNeighbour (e .kind) ≡ 
       }
 
 module _ (s : Station) (e : Record) (bearers : List ℕ) (room : ℕ) (formed : wellFormed e ≡ true) where
-  -- An acknowledge, failure, status, release or cancel leaves every place but its sender's records as it was, and the clock, the last
-  -- own ID and the settings.
-  pub message-keeps-others : 2 ≤ e .kind → e .kind ≤ 6 → OthersKept (e .neighbour) s (stepOf s e bearers room .station)
-  message-keeps-others low high =
-      rw (step-about s e bearers room formed low high) (about-keeps s e (answers-concern (e .kind) low high) (find (about e) s) refl)
-
-  -- It changes one place at the most.
+  -- An acknowledge, failure, status, release or cancel changes one place at the most.
   pub message-changes-one : 2 ≤ e .kind → e .kind ≤ 6 → (k : ℕ) × ((i : ℕ) → (i ≡ k → ⊥) → getD (stepOf s e bearers room .station .entries) i blank ≡ getD (s .entries) i blank)
   message-changes-one low high = rw (step-about s e bearers room formed low high) (at-one (find (about e) s))
     where
@@ -121,6 +129,16 @@ module _ (s : Station) (e : Record) (bearers : List ℕ) (room : ℕ) (formed : 
             let both = both-true (leb 1 (r .state) && leb (r .state) 3) (eqb (r .neighbour) (e .neighbour)) t in
             let timed = between 1 3 (r .state) (both .0) in
             other (timed .0) (timed .1) (eqb-true (r .neighbour) (e .neighbour) (both .1))
+
+-- A message of kinds 2 to 8, well formed or not, leaves every place but its sender's records as it was, and the clock, the last own ID
+-- and the settings.
+pub message-keeps-others : (s : Station) (e : Record) (bearers : List ℕ) (room : ℕ) → 2 ≤ e .kind → e .kind ≤ 8 → OthersKept (e .neighbour) s (stepOf s e bearers room .station)
+message-keeps-others s e bearers room low high =
+    by-message e high
+    (λ malformed. rw malformed (kept (e .neighbour) s))
+    (λ formed most. rw (step-about s e bearers room formed low most) (about-keeps s e (answers-concern (e .kind) low most) (find (about e) s) refl))
+    (λ formed seven. reset-keeps-others s e bearers room formed (ap sortOf seven))
+    (λ formed eight. rw (response-step s e bearers room formed eight) (kept (e .neighbour) s))
 
 -- ---- what it depends on
 

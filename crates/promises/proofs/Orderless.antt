@@ -28,22 +28,22 @@ use Rattle.table.proofs.Counting.{own-itself}
 use Rattle.places.proofs.Finding.{found-none}
 use Rattle.table.proofs.Finding.{found-here, set-each}
 use Rattle.handover.proofs.Keys.{isOf, keyed-means}
-use Rattle.promises.proofs.Neighbours.{decide-deadline}
+use Rattle.promises.proofs.Neighbours.{by-message, decide-deadline}
 use Rattle.table.proofs.Placing.{found-place}
 use Rattle.table.proofs.Resetting.{reset-at}
-use Rattle.promises.proofs.Rows.{step-reset}
+use Rattle.promises.proofs.Rows.{step-reset, response-step}
 use Rattle.handover.proofs.Senders.{about-of}
 use Rattle.promises.proofs.Strangers.{answers-concern, step-about}
 use Rattle.table.proofs.Tally.{none-at}
 
--- every record of a neighbour that one station has stands in another
-abbrev pub Has : ℕ → Station → Station → Type 0
-Has n s t = (i : ℕ) → i < 64 → isOf n (getD (s .entries) i blank) ≡ true → (j : ℕ) × (j < 64) × (getD (t .entries) j blank ≡ getD (s .entries) i blank)
+-- every record of a neighbour that one station has stands in another, at the place that is told
+abbrev pub Has : (ℕ → ℕ) → ℕ → Station → Station → Type 0
+Has to n s t = (i : ℕ) → i < 64 → isOf n (getD (s .entries) i blank) ≡ true → (to i < 64) × (getD (t .entries) (to i) blank ≡ getD (s .entries) i blank)
 
--- two stations have the same records of a neighbour, wherever they stand
-pub record Same (n : ℕ) (s t : Station) : Type 0 where
-  pub there : Has n s t
-  pub back : Has n t s
+-- two stations have the same records of a neighbour, wherever they stand: a place of the one is told for each of the other
+pub record Same (to from : ℕ → ℕ) (n : ℕ) (s t : Station) : Type 0 where
+  pub there : Has to n s t
+  pub back : Has from n t s
 
 -- ---- a record is found at one place only
 
@@ -117,89 +117,93 @@ stands-once s sound i j h k used same =
 
 -- ---- one record is put in its place in both
 
-of-used : (n : ℕ) (r : Entry) → isOf n r ≡ true → isFree r ≡ false
+pub of-used : (n : ℕ) (r : Entry) → isOf n r ≡ true → isFree r ≡ false
 of-used n r t = not-true (isFree r) (both-true (not (isFree r)) (eqb (r .neighbour) n) t .0)
 
-has-put : (n : ℕ) (s t : Station) → Sound s → Sound t → (i j : ℕ) (r : Entry) → i < 64 → j < 64 → getD (t .entries) j blank ≡ getD (s .entries) i blank → Has n s t → Has n (put i r s) (put j r t)
-has-put n s t sound other i j r h k same has =
-    set-each (λ p x. p < 64 → isOf n x ≡ true → (q : ℕ) × (q < 64) × (getD (set (t .entries) j r) q blank ≡ x)) (s .entries) i r (omega (arith, sound .places))
-    (λ _ _. (j, k, getD-set-same (t .entries) j r blank (omega (arith, other .places))))
+has-put : (to : ℕ → ℕ) (n : ℕ) (s t : Station) → Sound s → Sound t → (i j : ℕ) (r : Entry) → i < 64 → j < 64 → to i ≡ j → getD (t .entries) j blank ≡ getD (s .entries) i blank
+    → Has to n s t → Has to n (put i r s) (put j r t)
+has-put to n s t sound other i j r h k place same has =
+    set-each (λ p x. p < 64 → isOf n x ≡ true → (to p < 64) × (getD (set (t .entries) j r) (to p) blank ≡ x)) (s .entries) i r (omega (arith, sound .places))
+    (λ _ _. rw place (k, getD-set-same (t .entries) j r blank (omega (arith, other .places))))
     (λ p apart small of.
     let found = has p small of in
-    let elsewhere : found .0 ≡ j → ⊥ = λ here. apart (stands-once s sound p i small h (of-used n (getD (s .entries) p blank) of) (sym same ∙ rw here at (found .2))) in
-    (found .0, found .1, getD-set-other (t .entries) j (found .0) r blank elsewhere ∙ found .2))
+    let elsewhere : to p ≡ j → ⊥ = λ here. apart (stands-once s sound p i small h (of-used n (getD (s .entries) p blank) of) (sym same ∙ rw here at (found .1))) in
+    (found .0, getD-set-other (t .entries) j (to p) r blank elsewhere ∙ found .1))
 
 -- ---- the answer
 
--- the same answer, and the same records of the neighbour afterwards
-pub record SameAnswer (n : ℕ) (a b : Answer) : Type 0 where
+-- the same answer, and the same records of the neighbour afterwards, at the places that are told
+pub record SameAnswer (to from : ℕ → ℕ) (n : ℕ) (a b : Answer) : Type 0 where
   pub outcome : a .outcome ≡ b .outcome
-  pub records : Same n (a .station) (b .station)
+  pub records : Same to from n (a .station) (b .station)
 
 module _ (e : Record) (low : 2 ≤ e .kind) (high : e .kind ≤ 6) where
-  -- A place that is found, and what is found there.
-  finds : (s : Station) → Sound s → (i : ℕ) → find (about e) s ≡ At i → (i < 64) × (about e (getD (s .entries) i blank) ≡ true)
-  finds s sound i found = (found-place s sound (about e) i found, found-here (about e) s i found .1)
+  module _ (to : ℕ → ℕ) (s t : Station) (sound : Sound s) (other : Sound t) (has : Has to (e .neighbour) s t) (i : ℕ) (found : find (about e) s ≡ At i) where
+    -- What the one station finds, the other has, and the event is about it there too.
+    twin : (to i < 64) × (getD (t .entries) (to i) blank ≡ getD (s .entries) i blank) × (about e (getD (t .entries) (to i) blank) ≡ true)
+    twin =
+        let mine = found-here (about e) s i found .1 in
+        let there = has i (found-place s sound (about e) i found) (about-of e (getD (s .entries) i blank) (answers-concern (e .kind) low high) mine) in
+        (there .0, there .1, ap (about e) (there .1) ∙ mine)
 
-  -- What the one station has, the other finds.
-  counterpart : (s t : Station) → Has (e .neighbour) s t → (i : ℕ) → i < 64 → about e (getD (s .entries) i blank) ≡ true → (j : ℕ) × (j < 64) × (getD (t .entries) j blank ≡ getD (s .entries) i blank) × (about e (getD (t .entries) j blank) ≡ true)
-  counterpart s t has i h mine =
-      let found = has i h (about-of e (getD (s .entries) i blank) (answers-concern (e .kind) low high) mine) in
-      (found .0, found .1, found .2, ap (about e) (found .2) ∙ mine)
+    -- So it finds that.
+    not-nothing : find (about e) t ≡ Nothing → ⊥
+    not-nothing none = true≢false (sym (twin .2) ∙ none-at (about e) (t .entries) (to i) (omega (arith, twin .0, other .places)) (found-none (about e) (t .entries) 0 none))
 
-  never : (s t : Station) → Sound s → Sound t → Has (e .neighbour) s t → (i : ℕ) → find (about e) s ≡ At i → find (about e) t ≡ Nothing → ⊥
-  never s t sound other has i found none =
-      let here = finds s sound i found in
-      let there = counterpart s t has i (here .0) (here .1) in
-      true≢false (sym (there .3) ∙ none-at (about e) (t .entries) (there .0) (omega (arith, there .1, other .places)) (found-none (about e) (t .entries) 0 none))
+    no-other : (j : ℕ) → find (about e) t ≡ At j → to i ≡ j
+    no-other j there = about-once e low high t other (to i) j (twin .0) (found-place t other (about e) j there) (twin .2) (found-here (about e) t j there .1)
 
-  module _ (s t : Station) (sound : Sound s) (other : Sound t) (same : Same (e .neighbour) s t) (timer : e .kind ≡ 2 → s .clock + s .settings .overall ≡ t .clock + t .settings .overall) where
-    answers : (f g : Found) → find (about e) s ≡ f → find (about e) t ≡ g → SameAnswer (e .neighbour) (aboutOne e f s) (aboutOne e g t)
+  module _ (to from : ℕ → ℕ) (s t : Station) (sound : Sound s) (other : Sound t) (same : Same to from (e .neighbour) s t) (timer : e .kind ≡ 2 → s .clock + s .settings .overall ≡ t .clock + t .settings .overall) where
+    answers : (f g : Found) → find (about e) s ≡ f → find (about e) t ≡ g → SameAnswer to from (e .neighbour) (aboutOne e f s) (aboutOne e g t)
     answers Nothing Nothing _ _ = record { outcome = refl; records = same }
-    answers Nothing (At j) none found = absurd (never t s other sound (same .back) j found none)
-    answers (At i) Nothing found none = absurd (never s t sound other (same .there) i found none)
+    answers Nothing (At j) none found = absurd (not-nothing from t s other sound (same .back) j found none)
+    answers (At i) Nothing found none = absurd (not-nothing to s t sound other (same .there) i found none)
     answers (At i) (At j) first second =
-        let here = finds s sound i first in
-        let there = finds t other j second in
-        let twin = counterpart s t (same .there) i (here .0) (here .1) in
-        let place : twin .0 ≡ j = about-once e low high t other (twin .0) j (twin .1) (there .0) (twin .3) (there .1) in
+        let here = found-place s sound (about e) i first in
+        let there = found-place t other (about e) j second in
+        let place = no-other to s t sound other (same .there) i first j second in
+        let home = no-other from t s other sound (same .back) j second i first in
         let x = getD (s .entries) i blank in
-        let equal : getD (t .entries) j blank ≡ x = rw place at (twin .2) in
+        let equal : getD (t .entries) j blank ≡ x = rw place at (twin to s t sound other (same .there) i first .1) in
         let d = decide e x (s .clock + s .settings .overall) in
         let decided : d ≡ decide e (getD (t .entries) j blank) (t .clock + t .settings .overall) = decide-deadline e x (s .clock + s .settings .overall) (t .clock + t .settings .overall) timer ∙ ap (λ (r : Entry). decide e r (t .clock + t .settings .overall)) (sym equal) in
-        subst (λ (c : Decision). SameAnswer (e .neighbour) (carried i d s) (carried j c t)) decided
+        subst (λ (c : Decision). SameAnswer to from (e .neighbour) (carried i d s) (carried j c t)) decided
         (record {
           outcome = refl;
           records = record {
-            there = has-put (e .neighbour) s t sound other i j (d .entry) (here .0) (there .0) equal (same .there);
-            back = has-put (e .neighbour) t s other sound j i (d .entry) (there .0) (here .0) (sym equal) (same .back);
+            there = has-put to (e .neighbour) s t sound other i j (d .entry) here there place equal (same .there);
+            back = has-put from (e .neighbour) t s other sound j i (d .entry) there here home (sym equal) (same .back);
           };
         })
 
--- An acknowledge, failure, status, release or cancel is answered by its sender's records alone, wherever they stand, and, if it is an
--- acknowledge, by the clock and the overall timer: two stations with the same of these answer the same, and have the same records of
--- that neighbour afterwards.
-pub message-depends-on-sender : (s t : Station) → Sound s → Sound t → (e : Record) (bearers more : List ℕ) (room space : ℕ) → wellFormed e ≡ true → 2 ≤ e .kind → e .kind ≤ 6
-    → Same (e .neighbour) s t → (e .kind ≡ 2 → (s .clock ≡ t .clock) × (s .settings .overall ≡ t .settings .overall))
-    → SameAnswer (e .neighbour) (stepOf s e bearers room) (stepOf t e more space)
-message-depends-on-sender s t sound other e bearers more room space formed low high same timer =
-    rw (step-about s e bearers room formed low high, step-about t e more space formed low high)
-    (answers e low high s t sound other same (λ two. omega (arith, timer two)) (find (about e) s) (find (about e) t) refl refl)
-
 -- A reset leaves the same records of a neighbour where they were the same.
-has-reset : (n : ℕ) (e : Record) (s t : Station) → Has n s t → Has n (reset e s) (reset e t)
-has-reset n e s t has p small mine =
+has-reset : (to : ℕ → ℕ) (n : ℕ) (e : Record) (s t : Station) → Has to n s t → Has to n (reset e s) (reset e t)
+has-reset to n e s t has p small mine =
     let x = getD (s .entries) p blank in
     let left : isOf n (leftOf e x) ≡ true = rw (reset-at e s p) at mine in
     by-cases (resets e x) (λ u. absurd (false≢true (rw u at left)))
     (λ u.
     let found = has p small (rw u at left) in
-    (found .0, found .1, reset-at e t (found .0) ∙ ap (leftOf e) (found .2) ∙ sym (reset-at e s p)))
+    (found .0, reset-at e t (to p) ∙ ap (leftOf e) (found .1) ∙ sym (reset-at e s p)))
 
--- A reset, and the loss of a neighbour, are answered the same by every station, and where two have the same records of that neighbour,
--- they have the same afterwards.
-pub reset-depends-on-none : (s t : Station) (e : Record) (bearers more : List ℕ) (room space : ℕ) → wellFormed e ≡ true → sortOf (e .kind) ≡ allOfNeighbour
-    → Same (e .neighbour) s t → SameAnswer (e .neighbour) (stepOf s e bearers room) (stepOf t e more space)
-reset-depends-on-none s t e bearers more room space formed kinds same =
-    rw (step-reset s e bearers room formed kinds, step-reset t e more space formed kinds)
-    (record { outcome = refl; records = record { there = has-reset (e .neighbour) e s t (same .there); back = has-reset (e .neighbour) e t s (same .back) } })
+module _ (to from : ℕ → ℕ) (s t : Station) (e : Record) (bearers more : List ℕ) (room space : ℕ) (same : Same to from (e .neighbour) s t) where
+  -- A reset, and the loss of a neighbour, are answered the same by every station, and where two have the same records of that neighbour,
+  -- they have the same afterwards.
+  pub reset-depends-on-none : wellFormed e ≡ true → sortOf (e .kind) ≡ allOfNeighbour → SameAnswer to from (e .neighbour) (stepOf s e bearers room) (stepOf t e more space)
+  reset-depends-on-none formed kinds =
+      rw (step-reset s e bearers room formed kinds, step-reset t e more space formed kinds)
+      (record { outcome = refl; records = record { there = has-reset to (e .neighbour) e s t (same .there); back = has-reset from (e .neighbour) e t s (same .back) } })
+
+  -- A message of kinds 2 to 8, well formed or not, is answered by its sender's records alone, wherever they stand, and, if it is an
+  -- acknowledge, by the clock and the overall timer: two stations with the same of these answer the same, and have the same records of
+  -- that neighbour afterwards, where they had them.
+  pub message-depends-on-sender : Sound s → Sound t → 2 ≤ e .kind → e .kind ≤ 8 → (e .kind ≡ 2 → (s .clock ≡ t .clock) × (s .settings .overall ≡ t .settings .overall))
+      → SameAnswer to from (e .neighbour) (stepOf s e bearers room) (stepOf t e more space)
+  message-depends-on-sender sound other low high timer =
+      by-message e high
+      (λ malformed. rw malformed (record { outcome = refl; records = same }))
+      (λ formed most.
+      rw (step-about s e bearers room formed low most, step-about t e more space formed low most)
+      (answers e low most to from s t sound other same (λ two. omega (arith, timer two)) (find (about e) s) (find (about e) t) refl refl))
+      (λ formed seven. reset-depends-on-none formed (ap sortOf seven))
+      (λ formed eight. rw (response-step s e bearers room formed eight, response-step t e more space formed eight) (record { outcome = refl; records = same }))
