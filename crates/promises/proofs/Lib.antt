@@ -3,6 +3,7 @@ pub mod Balance
 pub mod Bounds
 pub mod Cancels
 pub mod Cases
+pub mod EitherOrder
 pub mod Full
 pub mod Guests
 pub mod Impostors

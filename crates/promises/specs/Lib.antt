@@ -1,3 +1,4 @@
 pub mod Views
 pub mod Cases
 pub mod Impostors
+pub mod Orders
