@@ -12,11 +12,11 @@ use Rattle.records.specs.declared.Record.{Record}
 use Rattle.fields.specs.Fields.{kinds, sortOf, noEvent, soonestDue, newRecord, aRequest, wellFormed, sortOfEvent}
 
 -- A test that holds of every kind of the table and its sort, and of no event, holds of any number and its sort.
-pub every-kind : (test : ℕ → ℕ → Bool) → every (λ k row. test k (getD row 8 0)) kinds ≡ true → ((j : ℕ) → test j noEvent ≡ true) → (k : ℕ) → test k (sortOf k) ≡ true
-every-kind test all none k = every-at (λ i (row : List ℕ). test i (getD row 8 0)) kinds (replicate 9 0) k all none
+pub every-kind : (test : ℕ → ℕ → Bool) → every (λ k row. test k (getD row 14 0)) kinds ≡ true → ((j : ℕ) → test j noEvent ≡ true) → (k : ℕ) → test k (sortOf k) ≡ true
+every-kind test all none k = every-at (λ i (row : List ℕ). test i (getD row 14 0)) kinds (replicate 15 0) k all none
 
 -- So a test that holds of every kind of a sort in the table holds of any kind of that sort.
-pub every-of-sort : (sort : ℕ) (test : ℕ → Bool) → eqb noEvent sort ≡ false → every (λ i row. not (eqb (getD row 8 0) sort) || test i) kinds ≡ true → (k : ℕ) → sortOf k ≡ sort → test k ≡ true
+pub every-of-sort : (sort : ℕ) (test : ℕ → Bool) → eqb noEvent sort ≡ false → every (λ i row. not (eqb (getD row 14 0) sort) || test i) kinds ≡ true → (k : ℕ) → sortOf k ≡ sort → test k ≡ true
 every-of-sort sort test some all k is = rw (is, eqb-same sort) at (every-kind (λ i x. not (eqb x sort) || test i) all (λ j. rw some) k)
 
 -- The sorts that one kind has alone.

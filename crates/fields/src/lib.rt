@@ -1,8 +1,10 @@
-// What sort of event a kind is, which fields it uses, and in what range.
+// What sort of event a kind is, which fields it uses and within what limits, and what is wrong with a record.
 use records::Record;
 ghost use mathlib.Core.Path.{_≡_};
-ghost use lib.ListN.{getD};
-ghost use Rattle.fields.specs.Fields.{rowOf, isFilled, inRange, idsInRange, valuesInRange, othersZero, formedBy, sortOfEvent};
+ghost use Prim.Native.Nat.{_<_};
+ghost use lib.Dec.{leb};
+ghost use lib.ListN.{getD, take, drop};
+ghost use Rattle.fields.specs.Fields.{rowOf, fits, allFit, valuesOf, isOut, isStray, firstFrom, faultIn, faultOf, faultOfBearer, isBearer, isCounted, sortOfEvent, Plain};
 
 // The sorts of events: none by itself; about one record of the table; about all outgoing and held records of a neighbour; about
 // the soonest record that is due; one that makes a record; a request; one that is taken and changes nothing.
@@ -20,94 +22,234 @@ pub const REQUEST: u8 = 5;
 
 pub const NO_CHANGE: u8 = 6;
 
-// How many kinds there are, the one that is none counted too.
-const KINDS: usize = 18;
+// What is wrong with a record: the reply, and the first byte of the lowest field that offends; 0 and 0 if nothing is.
+pub struct Fault {
+    pub reply: u8,
+    pub offset: u8,
+}
 
-// By kind: 1 for a field that it uses (neighbour, Old, New, first set, second set, reason, number, time), then its sort.
-const USES: [[u8; 9]; KINDS] = [
-    [0, 0, 0, 0, 0, 0, 0, 0, NO_EVENT], // 0 no kind
-    [1, 1, 0, 0, 0, 0, 1, 0, REQUEST], // 1 handover request received
-    [1, 1, 1, 1, 1, 0, 0, 0, ONE_RECORD], // 2 request acknowledge received
-    [1, 1, 0, 0, 0, 1, 0, 0, ONE_RECORD], // 3 preparation failure received
-    [1, 1, 1, 1, 0, 0, 0, 0, ONE_RECORD], // 4 SN status transfer received
-    [1, 1, 1, 0, 0, 0, 0, 0, ONE_RECORD], // 5 UE context release received
-    [1, 1, 1, 0, 0, 1, 0, 0, ONE_RECORD], // 6 handover cancel received
-    [1, 0, 0, 0, 0, 0, 0, 0, ALL_OF_NEIGHBOUR], // 7 reset request received
-    [1, 0, 0, 0, 0, 0, 0, 0, NO_CHANGE], // 8 reset response received
-    [1, 0, 0, 1, 0, 0, 0, 0, NEW_RECORD], // 9 start a handover
-    [0, 1, 0, 0, 0, 0, 0, 0, ONE_RECORD], // 10 cancel
-    [0, 0, 1, 0, 0, 0, 0, 0, ONE_RECORD], // 11 UE arrived
-    [0, 1, 0, 0, 0, 0, 0, 0, ONE_RECORD], // 12 UE returned
-    [0, 0, 1, 0, 0, 0, 0, 0, ONE_RECORD], // 13 UE left
-    [1, 0, 0, 0, 0, 0, 0, 0, ALL_OF_NEIGHBOUR], // 14 reset a neighbour
-    [0, 0, 0, 0, 0, 0, 0, 1, SOONEST_DUE], // 15 tick
-    [0, 0, 0, 0, 0, 0, 0, 0, NO_EVENT], // 16 bearer
-    [0, 1, 0, 1, 0, 0, 0, 0, ONE_RECORD], // 17 send SN status
+const WRONG_KIND: u8 = 10;
+
+const OUT_OF_RANGE: u8 = 11;
+
+const NOT_ZERO: u8 = 12;
+
+// How many fields a record has, its kind apart, and the first byte of each.
+const FIELDS: usize = 14;
+
+const OFFSETS: [u8; FIELDS] = [1, 2, 4, 6, 8, 10, 11, 12, 16, 24, 25, 26, 27, 28];
+
+// The limits of fields, by number: the greatest value of each.
+const LIMITS: usize = 12;
+
+const MOST: [u64; LIMITS] = [
+    0, // 0 a field that the kind does not use
+    31, // 1 a neighbour
+    4095, // 2 an ID
+    4095, // 3 an ID, or 65,535: absent
+    65535, // 4 a set
+    65535, // 5 a set that is not empty
+    255, // 6 any byte
+    4_294_967_295, // 7 any number
+    1_000_000_000_000, // 8 a time
+    1_000_000, // 9 units
+    15, // 10 an E-RAB ID or a priority
+    1, // 11 one bit
 ];
 
-// A kind's row of that table; that of no kind for a number that is none.
-fn row_of(kind: u8) -> [u8; 9]
+const UNUSED: u8 = 0;
+
+const ID_OR_ABSENT: u8 = 3;
+
+const SOME_SET: u8 = 5;
+
+const BEARER: [u8; 15] = [0, 0, 0, 0, 0, 0, 0, 9, 0, 10, 6, 10, 11, 0, NO_EVENT];
+
+// By kind: the limits of its 14 fields, lowest first (neighbour, Old, New, first set, second set, reason, byte 11, number, time, E-RAB ID, QCI,
+// priority, byte 27, bytes 28 to 31), then its sort. A match, since a constant table is built anew on the stack where it is read.
+fn row_of(kind: u8) -> [u8; 15]
     ensures { λ r. ⌜ r ≡ rowOf kind ⌝ }
 {
-    let row = kind as usize;
-    if row < KINDS { USES[row] } else { [0; 9] }
+    match kind {
+        1 => [1, 2, 0, 0, 0, 0, 0, 7, 0, 0, 0, 0, 0, 0, REQUEST], // handover request received
+        2 => [1, 2, 2, 4, 4, 0, 0, 0, 0, 0, 0, 0, 0, 0, ONE_RECORD], // request acknowledge received
+        3 => [1, 2, 0, 0, 0, 6, 0, 0, 0, 0, 0, 0, 0, 0, ONE_RECORD], // preparation failure received
+        4 => [1, 2, 2, 4, 0, 0, 0, 0, 0, 0, 0, 0, 0, 0, ONE_RECORD], // SN status transfer received
+        5 => [1, 2, 2, 0, 0, 0, 0, 0, 0, 0, 0, 0, 0, 0, ONE_RECORD], // UE context release received
+        6 => [1, 2, 3, 0, 0, 6, 0, 0, 0, 0, 0, 0, 0, 0, ONE_RECORD], // handover cancel received
+        7 => [1, 0, 0, 0, 0, 0, 0, 0, 0, 0, 0, 0, 0, 0, ALL_OF_NEIGHBOUR], // reset request received
+        8 => [1, 0, 0, 0, 0, 0, 0, 0, 0, 0, 0, 0, 0, 0, NO_CHANGE], // reset response received
+        9 => [1, 0, 0, 5, 0, 0, 0, 0, 0, 0, 0, 0, 0, 0, NEW_RECORD], // start a handover
+        10 => [0, 2, 0, 0, 0, 0, 0, 0, 0, 0, 0, 0, 0, 0, ONE_RECORD], // cancel
+        11 => [0, 0, 2, 0, 0, 0, 0, 0, 0, 0, 0, 0, 0, 0, ONE_RECORD], // UE arrived
+        12 => [0, 2, 0, 0, 0, 0, 0, 0, 0, 0, 0, 0, 0, 0, ONE_RECORD], // UE returned
+        13 => [0, 0, 2, 0, 0, 0, 0, 0, 0, 0, 0, 0, 0, 0, ONE_RECORD], // UE left
+        14 => [1, 0, 0, 0, 0, 0, 0, 0, 0, 0, 0, 0, 0, 0, ALL_OF_NEIGHBOUR], // reset a neighbour
+        15 => [0, 0, 0, 0, 0, 0, 0, 0, 8, 0, 0, 0, 0, 0, SOONEST_DUE], // tick
+        16 => BEARER, // bearer
+        17 => [0, 2, 0, 4, 0, 0, 0, 0, 0, 0, 0, 0, 0, 0, ONE_RECORD], // send SN status
+        _ => [0; 15],
+    }
 }
 
-// A start's set is not empty, a request's count not 0.
-fn is_filled(e: Record) -> bool
-    ensures { λ r. ⌜ r ≡ isFilled e ⌝ }
+// The fields, lowest first.
+fn values_of(e: Record) -> [u64; FIELDS]
+    ensures { λ r. ⌜ r ≡ valuesOf e ⌝ }
 {
-    (!(e.kind == 9) | !(e.first == 0)) & (!(e.kind == 1) | !(e.number == 0))
+    [
+        e.neighbour as u64,
+        e.old.0 as u64,
+        e.new.0 as u64,
+        e.first as u64,
+        e.second as u64,
+        e.reason as u64,
+        e.byte11 as u64,
+        e.number as u64,
+        e.time,
+        e.erab as u64,
+        e.qci as u64,
+        e.priority as u64,
+        e.flags as u64,
+        e.bytes28 as u64,
+    ]
 }
 
-// A field is zero, or used and at most its greatest value.
-fn in_range(used: u8, most: u64, value: u64) -> bool
-    ensures { λ r. ⌜ r ≡ inRange used most value ⌝ }
+// Whether a value fits a limit.
+fn fits(limit: u8, value: u64) -> bool
+    requires { ⌜ limit < 12 ⌝ }
+    ensures { λ r. ⌜ r ≡ fits limit value ⌝ }
 {
-    (value == 0) | ((used == 1) & (value <= most))
+    ((limit == ID_OR_ABSENT) & (value == 65535))
+        | (!((limit == SOME_SET) & (value == 0)) & (value <= MOST[limit as usize]))
 }
 
-// The neighbour and the IDs are in range.
-fn ids_in_range(e: Record, uses: [u8; 9]) -> bool
-    ensures { λ r. ⌜ r ≡ idsInRange (λ k. getD uses k 0) e ⌝ }
+// Whether a value is at most the greatest of a limit.
+fn within(most: &[u64; LIMITS], limit: u8, value: u64) -> bool
+    requires { ⌜ limit < 12 ⌝ }
+    ensures { λ r. ⌜ r ≡ leb value (getD (now (most .entry)) limit 0) ⌝ }
 {
-    in_range(uses[0], 31, e.neighbour as u64)
-        & in_range(uses[1], 4095, e.old.0 as u64)
-        & (in_range(uses[2], 4095, e.new.0 as u64) | ((e.kind == 6) & (e.new.0 == 65535)))
+    value <= most[limit as usize]
 }
 
-// The sets, the reason, the number and the time are in range.
-fn values_in_range(e: Record, uses: [u8; 9]) -> bool
-    ensures { λ r. ⌜ r ≡ valuesInRange (λ k. getD uses k 0) e ⌝ }
+// Whether the fields up to byte 11 fit their limits.
+fn low_fit(e: Record, row: [u8; 15]) -> bool
+    requires { ⌜ Plain row ⌝ }
+    ensures { λ r. ⌜ r ≡ allFit (λ k. getD row k 0) 0 (take 7 (valuesOf e)) ⌝ }
 {
-    in_range(uses[3], 65535, e.first as u64)
-        & in_range(uses[4], 65535, e.second as u64)
-        & in_range(uses[5], 255, e.reason as u64)
-        & in_range(uses[6], 256, e.number as u64)
-        & in_range(uses[7], 1_000_000_000_000, e.time)
+    let most = MOST;
+    within(&most, row[0], e.neighbour as u64)
+        & within(&most, row[1], e.old.0 as u64)
+        & (((row[2] == ID_OR_ABSENT) & (e.new.0 == 65535)) | within(&most, row[2], e.new.0 as u64))
+        & !((row[3] == SOME_SET) & (e.first == 0))
+        & within(&most, row[3], e.first as u64)
+        & within(&most, row[4], e.second as u64)
+        & within(&most, row[5], e.reason as u64)
+        & within(&most, row[6], e.byte11 as u64)
 }
 
-// Bytes 11 and 24 to 31 are zero.
-fn others_zero(e: Record) -> bool
-    ensures { λ r. ⌜ r ≡ othersZero e ⌝ }
+// Whether the others do.
+fn high_fit(e: Record, row: [u8; 15]) -> bool
+    requires { ⌜ Plain row ⌝ }
+    ensures { λ r. ⌜ r ≡ allFit (λ k. getD row k 0) 7 (drop 7 (valuesOf e)) ⌝ }
 {
-    (e.byte11 == 0)
-        & (e.erab == 0)
-        & (e.qci == 0)
-        & (e.priority == 0)
-        & (e.flags == 0)
-        & (e.bytes28 == 0)
+    let most = MOST;
+    within(&most, row[7], e.number as u64)
+        & within(&most, row[8], e.time)
+        & within(&most, row[9], e.erab as u64)
+        & within(&most, row[10], e.qci as u64)
+        & within(&most, row[11], e.priority as u64)
+        & within(&most, row[12], e.flags as u64)
+        & within(&most, row[13], e.bytes28 as u64)
 }
 
-// Whether an event is well formed, a request's bearers apart, by its kind's row.
-fn well_formed(e: Record, row: [u8; 9]) -> bool
-    ensures { λ r. ⌜ r ≡ formedBy (λ k. getD row k 0) e ⌝ }
+// The lowest field that is out of range.
+fn lowest_out(row: [u8; 15], values: [u64; FIELDS]) -> usize
+    requires { ⌜ Plain row ⌝ }
+    ensures { λ r. ⌜ r ≡ firstFrom isOut (λ k. getD row k 0) 0 values ⌝ }
 {
-    !(row[8] == NO_EVENT)
-        & ids_in_range(e, row)
-        & values_in_range(e, row)
-        & others_zero(e)
-        & is_filled(e)
+    for i in 0..FIELDS {
+        if !(row[i] == UNUSED) & !fits(row[i], values[i]) {
+            return i;
+        }
+    }
+    FIELDS
+}
+
+// The lowest field that is not used and not zero.
+fn lowest_stray(row: [u8; 15], values: [u64; FIELDS]) -> usize
+    ensures { λ r. ⌜ r ≡ firstFrom isStray (λ k. getD row k 0) 0 values ⌝ }
+{
+    for i in 0..FIELDS {
+        if (row[i] == UNUSED) & !(values[i] == 0) {
+            return i;
+        }
+    }
+    FIELDS
+}
+
+// What is wrong with the fields of a record: the lowest that is out of range, else the lowest that is not used and not zero.
+fn fault_in(e: Record, row: [u8; 15]) -> Fault
+    requires { ⌜ Plain row ⌝ }
+    ensures { λ r. ⌜ r ≡ faultIn (λ k. getD row k 0) (valuesOf e) ⌝ }
+{
+    let values = values_of(e);
+    let out = lowest_out(row, values);
+    if out < FIELDS {
+        return Fault {
+            reply: OUT_OF_RANGE,
+            offset: OFFSETS[out],
+        };
+    }
+    let stray = lowest_stray(row, values);
+    if stray < FIELDS {
+        return Fault {
+            reply: NOT_ZERO,
+            offset: OFFSETS[stray],
+        };
+    }
+    Fault {
+        reply: 0,
+        offset: 0,
+    }
+}
+
+// What is wrong with an event, a request's count and its bearers apart.
+pub fn fault_of(e: Record) -> Fault
+    ensures { λ r. ⌜ r ≡ faultOf e ⌝ }
+{
+    let row = row_of(e.kind);
+    if row[14] == NO_EVENT {
+        return Fault {
+            reply: WRONG_KIND,
+            offset: 0,
+        };
+    }
+    fault_in(e, row)
+}
+
+// What is wrong with the fields of a bearer's record.
+pub fn bearer_fault(r: Record) -> Fault
+    ensures { λ f. ⌜ f ≡ faultOfBearer r ⌝ }
+{
+    fault_in(r, BEARER)
+}
+
+// Whether a record is a bearer's, with nothing wrong in it.
+pub fn is_bearer(r: Record) -> bool
+    ensures { λ b. ⌜ b ≡ isBearer r ⌝ }
+{
+    if low_fit(r, BEARER) {
+        high_fit(r, BEARER) & (r.kind == 16)
+    } else {
+        false
+    }
+}
+
+// Whether a request's count is 1 to 256.
+fn is_counted(e: Record) -> bool
+    ensures { λ r. ⌜ r ≡ isCounted e ⌝ }
+{
+    !(e.kind == 1) | ((1 <= e.number) & (e.number <= 256))
 }
 
 // What sort of event a record is: none if it is malformed, a request's bearers apart.
@@ -115,8 +257,8 @@ pub fn sort_of(e: Record) -> u8
     ensures { λ r. ⌜ r ≡ sortOfEvent e ⌝ }
 {
     let row = row_of(e.kind);
-    if well_formed(e, row) {
-        row[8]
+    if low_fit(e, row) & high_fit(e, row) & is_counted(e) {
+        row[14]
     } else {
         NO_EVENT
     }

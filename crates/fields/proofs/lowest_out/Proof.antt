@@ -1,0 +1,84 @@
+-- The fields before `i` do not pass the test.
+use Prim.Native.Nat.{_≤_, _<_, _-_}
+use mathlib.Core.Path.{_≡_, refl, _∙_, sym}
+use native.Mathlib.Omega.{arith}
+use lib.ListN.{length, getD, drop}
+use borrow.Author.Needs.{needs}
+use Rattle.fields.specs.Fields.{isOut, firstFrom}
+use Rattle.fields.proofs.Searching.{found-here, found-later, found-nowhere}
+use Rattle.fields.proofs.Fitting.{a-limit}
+use Rattle.fields.proofs.lowest_out.Statement.{statement}
+use Rattle.fields.proofs.lowest_out.Tie as tie
+
+abbrev Inv-loop : tie.InvT-loop
+Inv-loop row values i₀ i =
+    (i ≤ 14) × (firstFrom isOut (λ k. getD row k 0) 0 values ≡ firstFrom isOut (λ k. getD row k 0) i (drop i values))
+
+abbrev μ-loop : tie.MeasureT-loop
+μ-loop row values i₀ i = 14 - i
+
+loop-holds : tie.Need-loop-holds Inv-loop μ-loop
+loop-holds c = (omega arith, refl)
+
+array-read-if1 : tie.Need-array-read-if1 Inv-loop μ-loop
+array-read-if1 c = search needs
+
+array-read-fits : tie.Need-array-read-fits Inv-loop μ-loop
+array-read-fits c = search needs
+
+mul-fits : tie.Need-mul-fits Inv-loop μ-loop
+mul-fits c = search needs
+
+array-read-fits-2 : tie.Need-array-read-fits-2 Inv-loop μ-loop
+array-read-fits-2 c = search needs
+
+fits-requires : tie.Need-fits-requires Inv-loop μ-loop
+fits-requires c κs = a-limit (c .before .before .args .t1) (c .before .before .pre) (c .before .loop .i) (search needs)
+
+returns : tie.Need-returns Inv-loop μ-loop
+returns c =
+    let loop = c .before .before .before in
+    let a = loop .before .args in
+    let i = loop .loop .i in
+    let inside : i < length (a .t2) = search needs in
+    sym (loop .loop .inv .1 ∙ found-here isOut (λ k. getD (a .t1) k 0) (a .t2) i inside (rw (← c .before .fits2 .ensures) (c .if1 .taken)))
+
+add-i : tie.Need-add-i Inv-loop μ-loop
+add-i c = search needs
+
+loop-less : tie.Need-loop-less Inv-loop μ-loop
+loop-less c = search needs
+
+loop-again : tie.Need-loop-again Inv-loop μ-loop
+loop-again c =
+    let loop = c .before .before .before in
+    let a = loop .before .args in
+    let i = loop .loop .i in
+    let inside : i < length (a .t2) = search needs in
+    (omega arith, loop .loop .inv .1 ∙ found-later isOut (λ k. getD (a .t1) k 0) (a .t2) i inside (rw (← c .before .fits2 .ensures) (c .if1 .left)))
+
+returns-2 : tie.Need-returns-2 Inv-loop μ-loop
+returns-2 c =
+    let a = c .before .before .args in
+    let i = c .before .loop .i in
+    let last : i ≡ 14 = omega arith in
+    let out : length (a .t2) ≤ i = search needs in
+    sym (c .before .loop .inv .1 ∙ found-nowhere isOut (λ k. getD (a .t1) k 0) (a .t2) i out ∙ last)
+
+pub lowest-out-spec : {M : Type 1} → statement M
+lowest-out-spec =
+    tie.close
+    (tie.spec
+    Inv-loop
+    μ-loop
+    loop-holds
+    array-read-if1
+    array-read-fits
+    mul-fits
+    array-read-fits-2
+    fits-requires
+    returns
+    add-i
+    loop-less
+    loop-again
+    returns-2)
