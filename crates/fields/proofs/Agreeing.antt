@@ -10,8 +10,8 @@ use lib.Dec.{leb, ltb, eqb}
 use lib.ListN.{getD, replicate, List·getD-eq-default}
 use Rattle.laws.proofs.Tests.{by-cases, on-either, both-true, either-true, every, every-at, below, below-at}
 use Rattle.records.specs.declared.Record.{Record}
-use Rattle.fields.specs.Fields.{kinds, rowOf, limitOf, sortOf, noEvent, mosts, fits, allFit, valuesOf, sortOfEvent}
-use Rattle.fields.specs.Malformed.{uses, usedBy, inRange, isAbsent, isCounted, wellFormed}
+use Rattle.fields.specs.Fields.{kinds, rowOf, limitOf, sortOf, noEvent, mosts, fits, allFit, valuesOf, isBearer, sortOfEvent}
+use Rattle.fields.specs.Malformed.{uses, usedBy, inRange, isAbsent, isCounted, wellFormed, bearerFormed}
 
 -- whether a field is used on both sides, with a limit, or on neither
 abbrev same : ℕ → ℕ → ℕ → Bool
@@ -130,3 +130,19 @@ sort-by-limits e =
     by-cases (eqb (sortOf (e .kind)) noEvent)
     (λ t. rw (no-event-malformed e t, eqb-true (sortOf (e .kind)) noEvent t) (on-either {A = ℕ} test noEvent))
     (λ t. rw (event-formed e t))
+
+-- A bearer's record by the row of kind 16 is one by document 01.
+pub bearer-formed : (r : Record) → bearerFormed r ≡ isBearer r
+bearer-formed r =
+    rw (
+      only-zero (r .neighbour),
+      only-zero (r .old .0),
+      only-zero (r .new .0),
+      only-zero (r .first),
+      only-zero (r .second),
+      only-zero (r .reason),
+      only-zero (r .byte11),
+      only-zero (r .time),
+      only-zero (r .bytes28),
+    )
+    (simp (and-assoc, and-true))

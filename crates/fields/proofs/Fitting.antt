@@ -1,12 +1,12 @@
 -- A row of the table has limits alone, and those with a rule of their own only for the fields that have it.
-use Prim.Native.Nat.{ℕ, _<_}
+use Prim.Native.Nat.{ℕ, zero, suc, _+_, _<_}
 use mathlib.Core.Path.{_≡_, refl}
 use mathlib.Core.Bool.{Bool, true, false, not, _&&_, _||_, and-assoc, and-true}
-use mathlib.Core.List.{List}
+use mathlib.Core.List.{List, [], _∷_}
 use borrow.Author.Tests.{ltb-true, not-true}
 use native.Mathlib.Omega.{arith}
 use lib.Dec.{leb, ltb, eqb}
-use lib.ListN.{getD, take, drop, replicate}
+use lib.ListN.{length, getD, take, drop, replicate}
 use Rattle.records.specs.declared.Record.{Record}
 use Rattle.laws.proofs.Tests.{both-true, every, every-at, below, below-at}
 use Rattle.fields.specs.Fields.{kinds, rowOf, limitOf, mosts, idOrAbsent, someSet, fits, allFit, valuesOf, isPlain, Plain}
@@ -67,3 +67,11 @@ all-fit limit e = simp (and-assoc, and-true)
 
 pub both-fit : (row : List ℕ) (kind : ℕ) (e : Record) (low high : Bool) → row ≡ rowOf kind → low ≡ allFit (λ k. getD row k 0) 0 (take 7 (valuesOf e)) → high ≡ allFit (λ k. getD row k 0) 7 (drop 7 (valuesOf e)) → (low && high) ≡ allFit (limitOf kind) 0 (valuesOf e)
 both-fit row kind e low high is l h = rw (l, h, is) (all-fit (limitOf kind) e)
+
+-- Where all fit, each does.
+pub each-fits : (limit : ℕ → ℕ) (k : ℕ) (vs : List ℕ) → allFit limit k vs ≡ true → (j : ℕ) → j < length vs → fits (limit (k + j)) (getD vs j 0) ≡ true
+each-fits limit k [] t j inside = absurd (omega arith)
+each-fits limit k (v ∷ vs) t zero inside = let same : k + 0 ≡ k = omega arith in rw same (both-true (fits (limit k) v) (allFit limit (suc k) vs) t .0)
+each-fits limit k (v ∷ vs) t (suc j) inside =
+    let next : k + suc j ≡ suc k + j = omega arith in
+    rw next (each-fits limit (suc k) vs (both-true (fits (limit k) v) (allFit limit (suc k) vs) t .1) j (omega arith))

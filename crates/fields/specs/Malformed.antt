@@ -69,3 +69,11 @@ formedBy by e = not (eqb (sortOf (e .kind)) noEvent) && idsInRange by e && value
 
 abbrev pub wellFormed : Record → Bool
 wellFormed e = formedBy (usedBy (e .kind)) e
+
+-- "16, bearer of the request before it: number = units, bytes 24 to 27": units 0 to 1,000,000, E-RAB ID 0 to 15, QCI any byte, priority 0 to 15, of
+-- byte 27 bit 0 alone
+abbrev pub bearerFormed : Record → Bool
+bearerFormed r =
+    eqb (r .kind) 16 && eqb (r .neighbour) 0 && eqb (r .old .0) 0 && eqb (r .new .0) 0 && eqb (r .first) 0 && eqb (r .second) 0
+    && eqb (r .reason) 0 && eqb (r .byte11) 0 && leb (r .number) 1000000 && eqb (r .time) 0 && leb (r .erab) 15
+    && leb (r .qci) 255 && leb (r .priority) 15 && leb (r .flags) 1 && eqb (r .bytes28) 0
