@@ -1,6 +1,8 @@
 pub mod Admitted
 pub mod Buffers
 pub mod Firsts
+pub mod Flawing
+pub mod Flaws
 pub mod Granted
 pub mod Judging
 pub mod Laws

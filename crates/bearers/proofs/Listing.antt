@@ -14,11 +14,13 @@ use Rattle.records.specs.Record.{recordAt}
 use Rattle.bearers.specs.declared.Bearer.{Bearer}
 use Rattle.bearers.specs.declared.Parsed.the-variants.{Whole, Malformed}
 use Rattle.bearers.specs.Admission.{countable}
-use Rattle.bearers.specs.Bearer.{othersZero, isBearer, bearerOf, parsed, recordsIn, bearersIn, allBearers}
+use Rattle.fields.specs.Fields.{limitOf, allFit, valuesOf, isBearer}
+use Rattle.fields.proofs.Fitting.{each-fits}
+use Rattle.bearers.specs.Bearer.{bearerOf, parsed, recordsIn, bearersIn, allBearers}
 use Rattle.bearers.specs.Working.{parsedAt}
 
 -- the record at a place
-abbrev placed : List ℕ → ℕ → Record
+abbrev pub placed : List ℕ → ℕ → Record
 placed bytes i = recordAt bytes (i * 32)
 
 -- what is left of the records from a place on
@@ -45,19 +47,15 @@ parsed-malformed r e = refuted (isBearer r) (λ t. clash cc)
 abbrev pub Formed : Bearer → Type 0
 Formed b = (b .id < 16) × (b .priority ≤ 15)
 
--- the tests before those two
-abbrev others : Record → Bool
-others r = othersZero r && eqb (r .kind) 16 && leb (r .number) 1000000 && leb (r .flags) 1
-
 pub formed : (r : Record) → isBearer r ≡ true → Formed (bearerOf r)
 formed r t =
-    let halves : (others r && leb (r .priority) 15 ≡ true) × (leb (r .erab) 15 ≡ true) = both-true (others r && leb (r .priority) 15) (leb (r .erab) 15) t in (
-      omega (arith, leb-true (r .erab) 15 (halves .1)),
-      leb-true (r .priority) 15 (both-true (others r) (leb (r .priority) 15) (halves .0) .1),
+    let all = both-true (eqb (r .kind) 16) (allFit (limitOf 16) 0 (valuesOf r)) t .1 in (
+      omega (arith, leb-true (r .erab) 15 (each-fits (limitOf 16) 0 (valuesOf r) all 9 (omega arith))),
+      leb-true (r .priority) 15 (each-fits (limitOf 16) 0 (valuesOf r) all 11 (omega arith)),
     )
 
 module _ (bytes : List ℕ) (count i : ℕ) (inside : i < count) where
-  next-records : rest bytes count i ≡ placed bytes i ∷ rest bytes count (i + 1)
+  pub next-records : rest bytes count i ≡ placed bytes i ∷ rest bytes count (i + 1)
   unfolding recordsIn
   next-records =
       let more : count - i ≡ suc (count - (i + 1)) = omega arith in
