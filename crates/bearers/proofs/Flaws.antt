@@ -1,6 +1,6 @@
 -- What the flaw of a request's bearers says of them.
-use Prim.Native.Nat.{ℕ, zero, suc, _+_, _/_, _<_}
-use mathlib.Core.Path.{_≡_, refl, _∙_, sym}
+use Prim.Native.Nat.{ℕ, zero, suc, _+_, _/_, _≤_, _<_}
+use mathlib.Core.Path.{_≡_, refl, _∙_, sym, ap}
 use mathlib.Core.Bool.{true, false, _&&_, and-assoc, and-false, false≢true}
 use mathlib.Core.List.{List, [], _∷_}
 use borrow.Author.Tests.{lt-leb, le-leb, lt-ltb, ltb-true, ltb-false, eqb-true}
@@ -11,7 +11,7 @@ use Rattle.laws.proofs.Tests.{by-cases}
 use Rattle.records.specs.declared.Record.{Record}
 use Rattle.records.specs.Record.{zeros}
 use Rattle.fields.specs.Fields.{limitOf, valuesOf, faultOfBearer}
-use Rattle.fields.proofs.Faults.{fit-exactly}
+use Rattle.fields.proofs.Faults.{fit-exactly, field-listed}
 use Rattle.bearers.specs.declared.Flaw.{Flaw}
 use Rattle.bearers.specs.Admission.{judgeable}
 use Rattle.bearers.specs.Bearer.{recordsIn, allBearers}
@@ -85,6 +85,18 @@ module _ (bytes : List ℕ) (room : ℕ) where
   abbrev records : List Record
   records = recordsIn count bytes
 
+  -- Where bearers are missing, or a record is of another kind, that is said of the request itself, whatever the others hold.
+  pub missing-named : isList (length bytes) && allOfKind records ≡ false → flawOf bytes room ≡ record { reply = 13; offset = 12; place = 0 }
+  missing-named w = rw w
+
+  -- Else the first bearer that offends is named, whatever the room.
+  pub first-named : isList (length bytes) && allOfKind records ≡ true → eqb (flawFrom 1 records .reply) 0 ≡ false → FirstWith records 1 (flawOf bytes room)
+  first-named w some = rw (w, some) (first-with records 1 some)
+
+  -- Else the room, if it is too short.
+  pub short-named : isList (length bytes) && allOfKind records ≡ true → eqb (flawFrom 1 records .reply) 0 ≡ true → room < count → flawOf bytes room ≡ record { reply = 15; offset = 0; place = 0 }
+  short-named w none short = rw (w, none, lt-ltb room count short)
+
   -- Bearers can be judged exactly if nothing is wrong with them.
   pub judgeable-exactly : judgeable bytes room ≡ eqb (flawOf bytes room .reply) 0
   judgeable-exactly =
@@ -116,14 +128,24 @@ module _ (bytes : List ℕ) (room : ℕ) where
   pub judgeable-flawless : judgeable bytes room ≡ true → flawOf bytes room ≡ noFlaw
   judgeable-flawless t = flawless (sym judgeable-exactly ∙ t)
 
-  -- Where bearers are missing, or a record is of another kind, that is said of the request itself, whatever the others hold.
-  pub missing-named : isList (length bytes) && allOfKind records ≡ false → flawOf bytes room ≡ record { reply = 13; offset = 12; place = 0 }
-  missing-named w = rw w
+  -- Where they cannot be judged the reply is one of 11, 12, 13 and 15; where they can be there is none.
+  pub flaw-listed : judgeable bytes room ≡ false → (11 ≤ flawOf bytes room .reply) × (flawOf bytes room .reply ≤ 15)
+  flaw-listed t = listed (sym judgeable-exactly ∙ t)
+    where
+      listed : eqb (flawOf bytes room .reply) 0 ≡ false → (11 ≤ flawOf bytes room .reply) × (flawOf bytes room .reply ≤ 15)
+      listed =
+          by-cases (isList (length bytes) && allOfKind records)
+          (λ w.
+          rw w
+          (by-cases (eqb (flawFrom 1 records .reply) 0 && ltb room count)
+          (λ s. rw s (λ _. (omega arith, omega arith)))
+          (λ s. rw s (λ some.
+          let first = first-with records 1 some in
+          let fault = ap (λ (f : Flaw). f .reply) (first .fault) in
+          let r = getD records (first .before) zeros in
+          let its = field-listed (limitOf 16) (valuesOf r) (rw fault at some) in
+          (omega (arith, fault, its .0), omega (arith, fault, its .1))))))
+          (λ w. rw w (λ _. (omega arith, omega arith)))
 
-  -- Else the first bearer that offends is named, whatever the room.
-  pub first-named : isList (length bytes) && allOfKind records ≡ true → eqb (flawFrom 1 records .reply) 0 ≡ false → FirstWith records 1 (flawOf bytes room)
-  first-named w some = rw (w, some) (first-with records 1 some)
-
-  -- Else the room, if it is too short.
-  pub short-named : isList (length bytes) && allOfKind records ≡ true → eqb (flawFrom 1 records .reply) 0 ≡ true → room < count → flawOf bytes room ≡ record { reply = 15; offset = 0; place = 0 }
-  short-named w none short = rw (w, none, lt-ltb room count short)
+  pub flaw-none : judgeable bytes room ≡ true → flawOf bytes room .reply ≡ 0
+  flaw-none t = ap (λ (f : Flaw). f .reply) (judgeable-flawless t)

@@ -1,6 +1,6 @@
 -- Admission at the target. What bearers are judged by is a list of them, in the order of the request; which QCIs are GBR
 -- classes is a parameter, `gbr`.
-use Prim.Native.Nat.{ℕ, zero, suc, _+_, _-_, _/_, _%_}
+use Prim.Native.Nat.{ℕ, zero, suc, _+_, _-_, _/_}
 use mathlib.Core.Bool.{Bool, cond, not, _&&_}
 use mathlib.Core.List.{List, [], _∷_, _++_, map}
 use lib.Count.{ones}
@@ -10,8 +10,9 @@ use Rattle.laws.specs.Sums.{total}
 use Rattle.bearers.specs.declared.Admission.{Admission}
 use Rattle.bearers.specs.declared.Bearer.{Bearer}
 use Rattle.bearers.specs.declared.Judgement.{Judgement}
-use Rattle.bearers.specs.declared.Judgement.the-variants.{Given, Malformed}
+use Rattle.bearers.specs.declared.Judgement.the-variants.{Given, Flawed}
 use Rattle.bearers.specs.Bearer.{recordsIn, bearersIn, allBearers}
+use Rattle.bearers.specs.Flaws.{isList, flawOf}
 use Rattle.sets.specs.Sets.{setOf}
 
 -- the bearers that pass a test, in their order
@@ -84,23 +85,23 @@ release8 qci = leb 1 qci && leb qci 4
 
 -- so many bytes are 1 to 256 whole records, with room for a verdict each
 abbrev pub countable : ℕ → ℕ → Bool
-countable size room = eqb (size % 32) 0 && leb 1 (size / 32) && leb (size / 32) 256 && leb (size / 32) room
+countable size room = isList size && leb (size / 32) room
 
 -- and each is a bearer's
 abbrev pub judgeable : List ℕ → ℕ → Bool
 judgeable bytes room = countable (length bytes) room && allBearers (recordsIn (length bytes / 32) bytes)
 
 abbrev pub judgementOf : List ℕ → ℕ → ℕ → Judgement
-judgementOf bytes free room = cond (judgeable bytes room) (Given (admissionOf release8 free (bearersIn (length bytes / 32) bytes))) Malformed
+judgementOf bytes free room = cond (judgeable bytes room) (Given (admissionOf release8 free (bearersIn (length bytes / 32) bytes))) (Flawed (flawOf bytes room))
 
 -- its number among the replies, and the count with it: "no bearer admitted", 5, else done, 0; "malformed", 1
 abbrev pub replyOf : Judgement → ℕ
 replyOf (Given a) = cond (eqb (a .admitted) 0) 5 0
-replyOf Malformed = 1
+replyOf (Flawed f) = f .reply
 
 abbrev pub countOf : Judgement → ℕ
 countOf (Given a) = a .count
-countOf Malformed = 0
+countOf (Flawed flaw) = 0
 
 -- "Verdicts go to a lent buffer, one byte per bearer in request order, the rest untouched."
 abbrev pub verdictsIn : List ℕ → ℕ → List ℕ → List ℕ

@@ -1,4 +1,4 @@
 pub mod Bearer
-pub mod Admission
 pub mod Flaws
+pub mod Admission
 pub mod Working

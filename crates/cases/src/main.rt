@@ -5,9 +5,11 @@
 // first set says how many places of the verdict buffer are lent to this station. `=` has the records after it, up to the next
 // case, played as often as its number says. A case without a birth goes on with the station of the case before.
 //
-// A line has the name; the reply of a birth; each reply with how often it came in a row; and what the last event gave: ending,
-// count, the message's kind, neighbour, Old, New, sets and reason, and as many places of the verdict buffer as the event has
-// records, 9 where a place is as found.
+// A line has the name; the reply of a birth; each reply with how often it came in a row, for what is malformed with the offset and the
+// place of the bearer, as `11@26.1*2`; and what the last event gave: ending, count, the message's kind, neighbour, Old, New, sets and
+// reason, and as many places of the verdict buffer as the event has records, 9 where a place is as found.
+use answers::Outcome;
+use bearers::Flaw;
 use libc::STDIN_FILENO;
 use libc::STDOUT_FILENO;
 use lines::answered;
@@ -16,7 +18,6 @@ use records::Record;
 use records::SIZE;
 use records::stream::cut;
 use std::num::wrapping_add_u64;
-use table::Outcome;
 use table::Settings;
 use table::Station;
 ghost use mathlib.Core.Path.{_≡_};
@@ -33,8 +34,8 @@ struct Case {
     first: usize,
     // how many times these are played yet, this time too
     plays: u32,
-    // the last reply, and how often it came in a row
-    reply: u8,
+    // the last reply and what it was for, and how often it came in a row
+    last: Flaw,
     row: u64,
 }
 
@@ -44,20 +45,31 @@ fn field(before: &[u8], n: u64) {
     io::print_decimal(STDOUT_FILENO, n);
 }
 
+// Writes which field was wrong, and of which bearer.
+fn write_field(last: Flaw) {
+    if 10 <= last.reply {
+        field(b"@", last.offset as u64);
+    }
+    if 0 < last.place {
+        field(b".", last.place as u64);
+    }
+}
+
 // Writes a reply and how often it came in a row, if it did.
-fn write_row(reply: u8, row: u64) {
+fn write_row(last: Flaw, row: u64) {
     if 0 < row {
-        field(b" ", reply as u64);
+        field(b" ", last.reply as u64);
+        write_field(last);
         field(b"*", row);
     }
 }
 
 // How often the next reply came in a row; the row of another before it is written.
-fn counted(reply: u8, row: u64, next: u8) -> u64 {
-    if next == reply {
+fn counted(last: Flaw, row: u64, next: Flaw) -> u64 {
+    if (next.reply == last.reply) & (next.offset == last.offset) & (next.place == last.place) {
         return wrapping_add_u64(row, 1);
     }
-    write_row(reply, row);
+    write_row(last, row);
     1
 }
 
@@ -115,6 +127,7 @@ fn born(c: Case, r: Record, next: usize) -> Case
     };
     let birth = Station::new(settings);
     let station = birth.station;
+    let last = c.last;
     field(b" born ", birth.reply as u64);
     Case {
         station,
@@ -122,7 +135,7 @@ fn born(c: Case, r: Record, next: usize) -> Case
         at: next,
         first: next,
         plays: c.plays,
-        reply: c.reply,
+        last,
         row: c.row,
     }
 }
@@ -159,7 +172,7 @@ fn onward(mut c: Case, script: &[u8], o: Outcome, verdicts: &[u8]) -> Case
         c.at = c.first;
         return c;
     }
-    write_row(c.reply, c.row);
+    write_row(c.last, c.row);
     write_outcome(o, verdicts);
     c
 }
@@ -178,14 +191,19 @@ fn answer(c: Case, script: &[u8], verdicts: &mut [u8]) -> Case
     let o = a.outcome;
     let station = a.station;
     let shown = io::count((piece.size / SIZE) as isize, verdicts);
+    let last = Flaw {
+        reply: o.reply,
+        offset: o.offset,
+        place: o.place,
+    };
     let next = Case {
         station,
         room: c.room,
         at: end,
         first: c.first,
         plays: c.plays,
-        reply: o.reply,
-        row: counted(c.reply, c.row, o.reply),
+        last,
+        row: counted(c.last, c.row, last),
     };
     onward(next, script, o, &verdicts[..shown])
 }
@@ -237,13 +255,18 @@ fn play(script: &[u8]) {
     };
     let birth = Station::new(least);
     let station = birth.station;
+    let none = Flaw {
+        reply: 0,
+        offset: 0,
+        place: 0,
+    };
     let mut c = Case {
         station,
         room: 0,
         at: 0,
         first: 0,
         plays: 1,
-        reply: 0,
+        last: none,
         row: 0,
     };
     // A proved loop has to end: no script takes so many turns.

@@ -1,14 +1,14 @@
 -- What the fault of a record says of its fields.
 use Prim.Native.Nat.{ℕ, zero, suc, _+_, _≤_, _<_}
 use mathlib.Core.Path.{_≡_, refl, _∙_, sym, ap, ap₂}
-use mathlib.Core.Bool.{Bool, true, false, not, _&&_, and-true, and-false, Bool·not-not}
+use mathlib.Core.Bool.{Bool, true, false, not, _&&_, and-true, and-false, Bool·not-not, true≢false}
 use mathlib.Core.List.{List, [], _∷_}
 use borrow.Author.Tests.{eq-eqb, ne-eqb, eqb-true, eqb-false, ltb-true, ltb-false, not-true}
 use native.Mathlib.Omega.{arith}
 use store.Seg.{eqb-same}
 use lib.Dec.{leb, ltb, eqb}
 use lib.ListN.{length, getD, drop}
-use Rattle.laws.proofs.Tests.{by-cases, clash}
+use Rattle.laws.proofs.Tests.{by-cases, both-true, clash}
 use Rattle.records.specs.declared.Record.{Record}
 use Rattle.fields.specs.Fields.{limitOf, sortOf, noEvent, fits, allFit, valuesOf, offsets, isOut, isStray, firstFrom, noFault, faultIn, faultOf, isCounted, wellFormed}
 use Rattle.fields.proofs.Agreeing.{only-zero, event-formed, no-event-malformed}
@@ -145,3 +145,20 @@ malformed-exactly e =
     by-cases (eqb (sortOf (e .kind)) noEvent)
     (λ t. no-event-malformed e t ∙ rw t)
     (λ t. event-formed e t ∙ rw (t, fit-exactly (limitOf (e .kind)) (valuesOf e) refl))
+
+-- What is wrong with a field is 11 or 12, and with a kind 10.
+pub field-listed : (limit : ℕ → ℕ) (values : List ℕ) → eqb (faultIn limit values .reply) 0 ≡ false → (11 ≤ faultIn limit values .reply) × (faultIn limit values .reply ≤ 12)
+field-listed limit values =
+    by-cases (ltb (firstFrom isOut limit 0 values) 14)
+    (λ t. rw t (λ _. (omega arith, omega arith)))
+    (λ t. by-cases (ltb (firstFrom isStray limit 0 values) 14) (λ u. rw (t, u) (λ _. (omega arith, omega arith))) (λ u. rw (t, u) (λ none. absurd (true≢false none))))
+
+pub fault-listed : (e : Record) → eqb (faultOf e .reply) 0 ≡ false → (10 ≤ faultOf e .reply) × (faultOf e .reply ≤ 12)
+fault-listed e =
+    by-cases (eqb (sortOf (e .kind)) noEvent)
+    (λ t. rw t (λ _. (omega arith, omega arith)))
+    (λ t. rw t (λ some. let listed = field-listed (limitOf (e .kind)) (valuesOf e) some in (omega (arith, listed .0), listed .1)))
+
+-- An event that is well formed has none.
+pub formed-faultless : (e : Record) → wellFormed e ≡ true → eqb (faultOf e .reply) 0 ≡ true
+formed-faultless e formed = both-true (eqb (faultOf e .reply) 0) (isCounted e) (sym (malformed-exactly e) ∙ formed) .0

@@ -2,7 +2,7 @@
 use Prim.Native.Nat.{ℕ, _≤_}
 use mathlib.Core.Path.{_≡_}
 use mathlib.Core.Bool.{Bool, true, false, _&&_, _||_, not, false≢true}
-use borrow.Author.Tests.{leb-true, le-leb, eqb-true}
+use borrow.Author.Tests.{leb-true, le-leb, eqb-true, eq-eqb}
 use native.Mathlib.Omega.{arith}
 use lib.Dec.{leb, eqb}
 use Rattle.laws.proofs.Tests.{by-cases, both-true, between}
@@ -78,6 +78,9 @@ module _ (e : Record) (t : wellFormed e ≡ true) where
       by-cases (eqb (e .kind) 1)
       (λ u. between 1 256 (e .number) (rw u at (parts .2)) .1)
       (λ u. omega (arith, at-most 0 0 (e .number) (rw (only-requests (e .kind) u) at (values .1))))
+
+  pub request-counted : e .kind ≡ 1 → 1 ≤ e .number
+  request-counted one = between 1 256 (e .number) (rw (eq-eqb (e .kind) 1 one) at (parts .2)) .0
 
   pub first-within : e .first ≤ 65535
   first-within =

@@ -9,7 +9,7 @@ use lib.ListN.{getD, replicate}
 use store.Seg.{eqb-same}
 use Rattle.laws.proofs.Tests.{by-cases, every, every-at, refuted}
 use Rattle.records.specs.declared.Record.{Record}
-use Rattle.fields.specs.Fields.{kinds, sortOf, noEvent, soonestDue, newRecord, aRequest, wellFormed, sortOfEvent}
+use Rattle.fields.specs.Fields.{kinds, sortOf, noEvent, oneRecord, allOfNeighbour, noChange, soonestDue, newRecord, aRequest, wellFormed, sortOfEvent}
 
 -- A test that holds of every kind of the table and its sort, and of no event, holds of any number and its sort.
 pub every-kind : (test : ℕ → ℕ → Bool) → every (λ k row. test k (getD row 14 0)) kinds ≡ true → ((j : ℕ) → test j noEvent ≡ true) → (k : ℕ) → test k (sortOf k) ≡ true
@@ -36,3 +36,11 @@ no-request e other =
     by-cases (wellFormed e)
     (λ formed. rw formed (refuted (eqb (sortOf (e .kind)) aRequest) (λ t. eqb-false (e .kind) 1 other (request-kind (e .kind) (eqb-true (sortOf (e .kind)) aRequest t)))))
     (λ malformed. rw malformed)
+
+-- Every sort is one of the seven.
+abbrev pub isSort : ℕ → Bool
+isSort sort =
+    eqb sort oneRecord || (eqb sort soonestDue || (eqb sort newRecord || (eqb sort allOfNeighbour || (eqb sort aRequest || (eqb sort noChange || eqb sort noEvent)))))
+
+pub sort-listed : (k : ℕ) → isSort (sortOf k) ≡ true
+sort-listed k = every-kind (λ _ sort. isSort sort) refl (λ _. refl) k

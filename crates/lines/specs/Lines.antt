@@ -8,16 +8,17 @@ use Rattle.buffers.specs.Digits.{cellRoom, cell, spaced}
 use Rattle.records.specs.Stream.{pieceOf, firstOf}
 use Rattle.records.specs.declared.stream.Piece.{Piece}
 use Rattle.table.specs.declared.Answer.{Answer}
-use Rattle.table.specs.declared.Outcome.{Outcome}
+use Rattle.answers.specs.declared.Outcome.{Outcome}
 use Rattle.table.specs.declared.Settings.{Settings}
 use Rattle.table.specs.declared.Station.{Station}
-use Rattle.table.specs.Step.{stepOf, verdictsOf, bornOf}
+use Rattle.table.specs.Step.{refused, stepOf, verdictsOf, bornOf}
 use Rattle.lines.specs.declared.Run.{Run}
 use Rattle.lines.specs.declared.Progress.{Progress}
 
--- "place from 1, reply, then kind, neighbour, Old, New, first and second set of the message sent (six zeros if none), then ending"
-abbrev pub firstEight : ℕ → Outcome → List ℕ
-firstEight place o =
+-- "place from 1, reply, then kind, neighbour, Old, New, first and second set of the message sent (six zeros if none), then ending"; and "the
+-- offset of the lowest offending field's first byte", then "the place of the bearer record", which is the last
+abbrev pub firstTen : ℕ → Outcome → List ℕ
+firstTen place o =
     place
     ∷ o .reply
     ∷ o .message .kind
@@ -26,27 +27,29 @@ firstEight place o =
     ∷ o .message .new .0
     ∷ o .message .first
     ∷ o .message .second
+    ∷ o .ending
+    ∷ o .offset
     ∷ []
 
 abbrev pub lineOf : ℕ → Outcome → List ℕ
-lineOf place o = spaced (firstEight place o) ++ cell (o .ending) 10
+lineOf place o = spaced (firstTen place o) ++ cell (o .place) 10
 
--- the longest line has so many bytes: nine numbers, and a byte after each
+-- the longest line has so many bytes: eleven numbers, and a byte after each
 abbrev pub longest : ℕ
-longest = 9 * cellRoom
+longest = 11 * cellRoom
 
 -- whether what stands at the front is an event: whatever comes after, or because nothing does
 abbrev pub isWhole : Bool → Piece → Bool
 isWhole ended p = p .whole || (ended && ltb 0 (p .size))
 
--- the station's answer to the bytes of one event: "A request with its bearers is one event"; "A piece shorter than 32 bytes at the
--- end is one malformed event"; so many places are lent for verdicts
+-- the station's answer to the bytes of one event: "A request with its bearers is one event"; "14 short piece", one that is shorter than 32
+-- bytes, which no entry of the station sees; so many places are lent for verdicts
 abbrev pub answerTo : ℕ → Station → List ℕ → Answer
-answerTo room s event = stepOf s (pieceOf event .head) (drop 32 event) room
+answerTo room s event = cond (ltb (length event) 32) (refused 14 s) (stepOf s (pieceOf event .head) (drop 32 event) room)
 
 -- and what it leaves of the buffer
 abbrev pub verdictsTo : Station → List ℕ → List ℕ → List ℕ
-verdictsTo s event buffer = verdictsOf s (pieceOf event .head) (drop 32 event) buffer
+verdictsTo s event buffer = cond (ltb (length event) 32) buffer (verdictsOf s (pieceOf event .head) (drop 32 event) buffer)
 
 -- a run lends so many places for verdicts, one for each bearer that a request can have
 abbrev pub verdictRoom : ℕ

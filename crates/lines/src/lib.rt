@@ -1,4 +1,6 @@
 // Events in, lines out: how the bytes of a stream become the lines of the station program.
+use answers::Outcome;
+use answers::quiet;
 use bearers::MOST;
 use buffers::digits::size;
 use buffers::digits::spell;
@@ -9,7 +11,6 @@ use records::stream::Piece;
 use records::stream::cut;
 use std::num::wrapping_add_u64;
 use table::Answer;
-use table::Outcome;
 use table::Settings;
 use table::Station;
 ghost use mathlib.Core.Path.{_≡_};
@@ -21,8 +22,8 @@ ghost use Rattle.buffers.specs.Digits.{cellRoom, cell as cellOf, spaced};
 ghost use Rattle.table.specs.Reached.{Reached};
 ghost use Rattle.lines.specs.Lines.{longest, lineOf, isWhole, answerTo, verdictsTo, newRun, workOf, progress};
 
-// The longest line: nine numbers of at most 20 digits, and a byte after each.
-pub const LONGEST: usize = 189;
+// The longest line: eleven numbers of at most 20 digits, and a byte after each.
+pub const LONGEST: usize = 231;
 
 // A station at work on a stream, and the place of the next event, from 1.
 pub struct Run {
@@ -56,13 +57,13 @@ fn cell(n: u64, after: u8, out: &mut [u8], at: usize) -> usize
     end + 1
 }
 
-// Writes eight numbers with a space after each from a place on, and answers the next place.
-fn cells(numbers: [u64; 8], out: &mut [u8], at: usize) -> usize
-    requires { ⌜ (length numbers ≡ 8) × (at + 8 * cellRoom ≤ length (now out)) ⌝ }
+// Writes ten numbers with a space after each from a place on, and answers the next place.
+fn cells(numbers: [u64; 10], out: &mut [u8], at: usize) -> usize
+    requires { ⌜ (length numbers ≡ 10) × (at + 10 * cellRoom ≤ length (now out)) ⌝ }
     ensures { λ r. ⌜ Writes (now (out .entry)) (now (out .exit)) at (spaced numbers) r ⌝ }
 {
     let mut place = at;
-    for i in 0..8usize {
+    for i in 0..10usize {
         place = cell(numbers[i], 32, out, place);
     }
     place
@@ -85,9 +86,11 @@ fn line(place: u64, o: Outcome, out: &mut [u8], at: usize) -> usize
         new.0 as u64,
         m.first as u64,
         m.second as u64,
+        o.ending as u64,
+        o.offset as u64,
     ];
     let next = cells(numbers, out, at);
-    cell(o.ending as u64, 10, out, next)
+    cell(o.place as u64, 10, out, next)
 }
 
 // Whether what stands at the front of some bytes is an event: whatever comes after them, or because nothing does.
@@ -97,15 +100,18 @@ fn is_whole(piece: Piece, ended: bool) -> bool
     piece.whole | (ended & (0 < piece.size))
 }
 
-// A station's answer to the bytes of one event, a record and the bearer records that it takes, or fewer bytes than a record has: these
-// are malformed. A request's verdicts go to the buffer.
+// A station's answer to the bytes of one event, a record and the bearer records that it takes, or fewer bytes than a record has: a
+// short piece, which leaves the station as it is. A request's verdicts go to the buffer.
 pub fn answered(station: Station, event: &[u8], verdicts: &mut [u8]) -> Answer
     requires { ⌜ Reached station ⌝ }
     ensures { λ a. ⌜ (a ≡ answerTo (length (now (verdicts .entry))) station (now (event .entry))) × (now (verdicts .exit) ≡ verdictsTo station (now (event .entry)) (now (verdicts .entry))) × Reached (a .station) ⌝ }
 {
     let read = Record::read(event, 0);
     match read {
-        Read::Nothing => station.step(Record::zeros()),
+        Read::Nothing => Answer {
+            outcome: quiet(14),
+            station,
+        },
         Read::Whole(r) => {
             if r.kind == 1 {
                 return station.request(r, &event[SIZE..], verdicts);
@@ -138,21 +144,27 @@ impl Run {
         requires { ⌜ Reached (self .station) ⌝ }
         ensures { λ r. ⌜ (r ≡ progress (workOf ended (length (now (out .entry))) (now (bytes .entry)) self)) × (now (out .exit) ≡ sets (now (out .entry)) 0 (workOf ended (length (now (out .entry))) (now (bytes .entry)) self .text)) × Reached (r .run .station) ⌝ }
     {
-        let mut station = self.station;
+        let station = self.station;
         let mut place = self.place;
         let mut taken: usize = 0;
         let mut written: usize = 0;
         let mut verdicts = [0u8; MOST];
         let mut piece = cut(bytes);
+        // The last answer, with the station that it leaves: a variable for the station alone would be one copy of it more.
+        let mut last = Answer {
+            outcome: quiet(0),
+            station,
+        };
         while is_whole(piece, ended) & (LONGEST <= out.len() - written) {
             let end = taken + piece.size;
-            let a = answered(station, &bytes[taken..end], &mut verdicts);
-            written = line(place, a.outcome, out, written);
-            station = a.station;
+            let before = last.station;
+            last = answered(before, &bytes[taken..end], &mut verdicts);
+            written = line(place, last.outcome, out, written);
             place = wrapping_add_u64(place, 1);
             taken = end;
             piece = cut(&bytes[taken..]);
         }
+        let station = last.station;
         Progress {
             run: Run { station, place },
             taken,

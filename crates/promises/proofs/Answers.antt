@@ -14,6 +14,7 @@ use Rattle.laws.proofs.Tests.{by-cases, both-true, clash}
 use Rattle.records.specs.declared.Record.{Record}
 use Rattle.handover.specs.declared.Entry.{Entry}
 use Rattle.places.specs.declared.Found.the-variants.{At}
+use Rattle.table.specs.declared.Answer.{Answer}
 use Rattle.table.specs.declared.Station.{Station}
 use Rattle.handover.specs.Events.{about, message}
 use Rattle.fields.specs.Fields.{wellFormed}
@@ -25,12 +26,13 @@ use Rattle.table.specs.Table.{find, put}
 use Rattle.promises.specs.Views.{NotOut, Preparing, Prepared, someOut, outOf, dueOf, named, out, due, ending}
 use Rattle.promises.proofs.Bounds.{bounded}
 use Rattle.table.proofs.Counting.{own-is}
+use Rattle.answers.proofs.Flaws.{flaw-in-listed}
 use Rattle.fields.proofs.Forms.{used-in-range}
 use Rattle.places.proofs.Finding.{by-found, found-none}
 use Rattle.table.proofs.Finding.{found-here, set-each}
 use Rattle.promises.proofs.Orderless.{about-once}
 use Rattle.table.proofs.Placing.{found-place}
-use Rattle.promises.proofs.Rows.{row-step}
+use Rattle.promises.proofs.Rows.{malformed-step, row-step}
 use Rattle.table.proofs.Soundness.{sound, sound-step}
 use Rattle.table.proofs.Tally.{none-at}
 use Rattle.promises.proofs.Ticks.{dueTimes, tick-nine}
@@ -134,4 +136,6 @@ nine-of s sound e bearers room p i d fifteen nine timer =
     omega (arith, before, seen .1))
     (λ free. absurd (Option·none-ne-some d (rw (free .1) at timer)))
     (named-at s sound i))
-    (λ malformed. let one : _≡_ {A = ℕ} 1 9 = rw malformed at nine in absurd (omega arith))
+    (λ malformed.
+    let is = sym (ap (λ (a : Answer). a .outcome .reply) (malformed-step s e bearers room malformed)) ∙ nine in
+    absurd (omega (arith, is, flaw-in-listed e .0)))

@@ -30,13 +30,14 @@ use Rattle.table.proofs.Counting.{own-is}
 use Rattle.places.proofs.Finding.{by-found, found-none}
 use Rattle.table.proofs.Finding.{found-here}
 use Rattle.table.proofs.Parts.{Part, as-refusal, as-response, as-failure, as-grant, as-start, as-reset, as-idle, as-tick, as-event, part}
+use Rattle.answers.proofs.Flaws.{flaw-in-listed}
 use Rattle.table.proofs.Placing.{found-place, due-place}
 use Rattle.table.proofs.Soundness.{sound, sound-step}
 use Rattle.table.proofs.Tally.{none-at}
 use Rattle.promises.proofs.Answers.{prepared-means, gone}
 use Rattle.promises.proofs.Bounds.{bounded}
 use Rattle.promises.proofs.Orderless.{about-once}
-use Rattle.promises.proofs.Rows.{row-step, lost-step}
+use Rattle.promises.proofs.Rows.{malformed-step, row-step, lost-step}
 use Rattle.promises.proofs.Shown.{shown}
 use Rattle.promises.proofs.Ticks.{soonest-due}
 use Rattle.promises.proofs.Units.{units-ended}
@@ -88,7 +89,7 @@ module _ {s : Station} (reached : Reached s) (e : Record) (bearers : List ℕ) (
   seen-cancel j h (prepared two reason is) = rw is (record { word = refl; of = inr (getD (s .entries) j blank .admitted, shown reached j h .prepared two) })
 
   part-cancel : {a : Answer} → Part s e bearers room a → sent a .kind ≡ 6 → CancelOf s (sent a)
-  part-cancel (as-refusal n _ _) six = absurd (omega arith)
+  part-cancel (as-refusal f _) six = absurd (omega arith)
   part-cancel (as-response _) six = absurd (omega arith)
   part-cancel (as-failure n _ _ _) six = absurd (omega arith)
   part-cancel (as-grant i _ _ _ _ _) six = absurd (omega arith)
@@ -136,7 +137,9 @@ module _ {s : Station} (reached : Reached s) (e : Record) (bearers : List ℕ) (
         returned = refl;
         gone = rw (gone s (sound reached) (e .old .0) j place its after);
       })))
-      (λ malformed. absurd (omega (arith, rw malformed at done)))
+      (λ malformed.
+      let is = sym (ap (λ (a : Answer). a .outcome .reply) (malformed-step s e bearers room malformed)) ∙ done in
+      absurd (omega (arith, is, flaw-in-listed e .0)))
 
 -- ---- taken
 

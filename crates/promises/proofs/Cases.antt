@@ -14,6 +14,8 @@ use Rattle.laws.specs.Sums.{total}
 use Rattle.laws.proofs.Tests.{same-at}
 use Rattle.records.specs.declared.Record.{Record}
 use Rattle.records.specs.Record.{little, recordOf, InRange}
+use Rattle.fields.specs.Fields.{firstFrom}
+use Rattle.bearers.specs.Flaws.{allOfKind, flawFrom}
 use Rattle.bearers.specs.Bearer.{recordsIn, allBearers}
 use Rattle.bearers.specs.Admission.{those, turnsFrom, freeAt, verdict}
 use Rattle.sets.specs.Sets as sets
@@ -104,7 +106,7 @@ must c = c .seen
 
 -- All cases show what they must, by computation.
 all-shown : map shows cases ≡ map must cases
-unfolding ones onesIn runs bytesIn findFrom dueFrom anyOf issueFrom little recordOf recordsIn allBearers total those turnsFrom freeAt verdict sets.add sets.setOf
+unfolding ones onesIn runs bytesIn firstFrom allOfKind flawFrom findFrom dueFrom anyOf issueFrom little recordOf recordsIn allBearers total those turnsFrom freeAt verdict sets.add sets.setOf
 all-shown = refl
 
 none-shown : shows noCase ≡ must noCase
@@ -145,13 +147,13 @@ pub birth-limits :
     ∷ []
     ≡ 0
     ∷ 0
-    ∷ 1
-    ∷ 1
-    ∷ 1
-    ∷ 1
-    ∷ 1
-    ∷ 1
-    ∷ 1
+    ∷ 16
+    ∷ 16
+    ∷ 16
+    ∷ 16
+    ∷ 16
+    ∷ 16
+    ∷ 16
     ∷ []
 birth-limits = refl
 

@@ -18,7 +18,7 @@ use Rattle.bearers.specs.Bearer.{recordsIn, allBearers}
 use Rattle.bearers.specs.Admission.{those, turnsFrom, freeAt, verdict}
 use Rattle.sets.specs.Sets as sets
 use Rattle.handover.specs.declared.Entry.{Entry}
-use Rattle.table.specs.declared.Outcome.{Outcome}
+use Rattle.answers.specs.declared.Outcome.{Outcome}
 use Rattle.table.specs.declared.Station.{Station}
 use Rattle.handover.specs.Numbers.{isFree, blank, anyOf, issueFrom}
 use Rattle.handover.proofs.Keys.{isOf}

@@ -1,9 +1,9 @@
 -- "64 records in use, exactly then": when a start or a request gets reply 4; and kinds that are none.
 use Prim.Native.Nat.{ℕ, _+_, _<_}
-use mathlib.Core.Path.{_≡_, refl}
+use mathlib.Core.Path.{_≡_, refl, _∙_}
 use mathlib.Core.Bool.{Bool, true, false, cond}
 use mathlib.Core.List.{List}
-use borrow.Author.Tests.{eqb-false}
+use borrow.Author.Tests.{eqb-false, eq-eqb}
 use native.Mathlib.Omega.{arith}
 use lib.Dec.{eqb}
 use Rattle.laws.proofs.Sums.{total-add, total-each, total-equal}
@@ -14,13 +14,14 @@ use Rattle.handover.specs.declared.Entry.{Entry}
 use Rattle.places.specs.declared.Found.the-variants.{At, Nothing}
 use Rattle.table.specs.declared.Station.{Station}
 use Rattle.handover.specs.Events.{about}
+use Rattle.fields.proofs.Agreeing.{no-event-malformed}
 use Rattle.fields.specs.Fields.{noEvent, sortOf, wellFormed}
 use Rattle.handover.specs.Numbers.{isFree}
 use Rattle.table.specs.Sound.{Sound}
 use Rattle.table.specs.Step.{refused, failure, admission, taken, complete, stepOf}
 use Rattle.table.specs.Table.{find}
 use Rattle.places.proofs.Finding.{by-found, found-none}
-use Rattle.promises.proofs.Rows.{start-step, full-step, crowded-step, empty-step, grant-step}
+use Rattle.promises.proofs.Rows.{malformed-step, start-step, full-step, crowded-step, empty-step, grant-step}
 use Rattle.table.proofs.Tally.{total-found, total-none-of}
 
 -- how many records are in use
@@ -83,6 +84,7 @@ module _ (s : Station) (sound : Sound s) where
         (λ t. rw (empty-step s e bearers room formed kind whole i new found t) (eqb-false 5 4 refl))
         (λ t. rw (grant-step s e bearers room formed kind whole i new found t) (eqb-false 0 4 refl)))
 
--- "A kind 16 elsewhere is malformed", and so is any other that is not 1 to 15 or 17.
-pub no-kind-step : (s : Station) (e : Record) (bearers : List ℕ) (room : ℕ) → sortOf (e .kind) ≡ noEvent → stepOf s e bearers room ≡ refused 1 s
-no-kind-step s e bearers room t = rw t
+-- "10 unknown or misplaced kind": 16 elsewhere, and any other that is not 1 to 15 or 17.
+pub no-kind-step : (s : Station) (e : Record) (bearers : List ℕ) (room : ℕ) → sortOf (e .kind) ≡ noEvent → stepOf s e bearers room ≡ refused 10 s
+no-kind-step s e bearers room t =
+    malformed-step s e bearers room (no-event-malformed e (eq-eqb (sortOf (e .kind)) noEvent t)) ∙ rw t

@@ -16,7 +16,7 @@ use Rattle.table.proofs.Parts.{Part, as-refusal, as-response, as-failure, as-gr
 
 module _ (s : Station) (e : Record) (i : ℕ) (live : isFree (getD (s .entries) i blank) ≡ false) (bearers : List ℕ) (room : ℕ) (one : e .kind ≡ 1) where
   part-keeps : {a : Answer} → Part s e bearers room a → getD (a .station .entries) i blank ≡ getD (s .entries) i blank
-  part-keeps (as-refusal n _ _) = refl
+  part-keeps (as-refusal f _) = refl
   part-keeps (as-response _) = refl
   part-keeps (as-failure n _ _ _) = refl
   part-keeps (as-grant k _ _ _ _ free) =

@@ -78,7 +78,7 @@ none-counted = refl
 
 module _ (s : Station) (e : Record) (bearers : List ℕ) (room : ℕ) (one : e .kind ≡ 1) where
   part-counted : {a : Answer} → Part s e bearers room a → Counted a
-  part-counted (as-refusal n _ _) = none-counted
+  part-counted (as-refusal f _) = none-counted
   part-counted (as-response _) = none-counted
   part-counted (as-failure n _ _ _) = none-counted
   part-counted (as-grant i _ _ _ _ _) = refl

@@ -26,3 +26,4 @@ pub mod Ticks
 pub mod Turns
 pub mod Units
 pub mod Viewing
+pub mod Malformed

@@ -22,6 +22,7 @@ use Rattle.handover.proofs.Keys.{request-about}
 use Rattle.places.proofs.Finding.{by-found, found-none}
 use Rattle.table.proofs.Finding.{found-here}
 use Rattle.table.proofs.Placing.{found-place}
+use Rattle.table.proofs.Requests.{flaw-at-listed}
 use Rattle.table.proofs.Tally.{none-at}
 use Rattle.promises.proofs.Rows.{incomplete-step, repeat-step, crowded-step, empty-step, grant-step}
 
@@ -57,7 +58,7 @@ module _ (s : Station) (sound : Sound s) (e : Record) (bearers : List ℕ) (room
       let both = both-true (eqb (r .state) 3 && eqb (r .neighbour) (e .neighbour)) (eqb (r .old .0) (e .old .0)) all in
       let two = both-true (eqb (r .state) 3) (eqb (r .neighbour) (e .neighbour)) (both .0) in
       (j, found-place s sound (about e) j found, record { held = eqb-true (r .state) 3 (two .0); neighbour = eqb-true (r .neighbour) (e .neighbour) (two .1); old = eqb-true (r .old .0) (e .old .0) (both .1) })))
-      (λ lacking. absurd (other (incomplete-step s e bearers room formed kind lacking) (eqb-false 1 3 refl)))
+      (λ lacking. absurd (other (incomplete-step s e bearers room formed kind lacking) (λ is. omega (arith, is, flaw-at-listed e bearers room lacking .0))))
     where
       other : {a : Answer} → stepOf s e bearers room ≡ a → (a .outcome .reply ≡ 3 → ⊥) → ⊥
       other is not-three = not-three (rw is at three)

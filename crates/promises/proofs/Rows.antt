@@ -5,26 +5,31 @@ use mathlib.Core.Bool.{true, false, cond}
 use mathlib.Core.List.{List}
 use lib.Dec.{ltb, eqb}
 use lib.ListN.{getD}
-use Rattle.laws.proofs.Tests.{same-at}
+use Rattle.laws.proofs.Tests.{same-at, on-true, on-false}
 use Rattle.records.specs.declared.Record.{Record}
 use Rattle.handover.specs.declared.Decision.{Decision}
 use Rattle.places.specs.declared.Found.{Found}
 use Rattle.places.specs.declared.Found.the-variants.{At, Nothing}
 use Rattle.table.specs.declared.Station.{Station}
 use Rattle.handover.specs.Events.{about, actionOf, message, silence}
-use Rattle.fields.specs.Fields.{oneRecord, allOfNeighbour, sortOf, wellFormed}
+use Rattle.fields.specs.Fields.{noEvent, oneRecord, allOfNeighbour, sortOf, wellFormed}
 use Rattle.handover.specs.Numbers.{isFree, blank}
 use Rattle.table.specs.Sound.{Sound}
-use Rattle.table.specs.Step.{answer, refused, carried, aboutOne, resetOf, starting, startAt, tickAt, repeatOf, admittedAt, bySort, stepOf, issue, started, failure, granted, admission, taken, complete}
+use Rattle.answers.specs.Answers.{flawIn}
+use Rattle.table.specs.Step.{answer, refused, malformed, flawAt, carried, aboutOne, resetOf, starting, startAt, tickAt, repeatOf, admittedAt, bySort, stepOf, issue, started, failure, granted, admission, taken, complete}
 use Rattle.table.specs.Table.{find, soonest, at, add, reset}
 use Rattle.handover.proofs.Rows.{rows, lastRow, rows-hold, dueRow, dueRows, due-rows-hold, row-of}
 use Rattle.table.proofs.Finding.{found-here}
 use Rattle.table.proofs.Placing.{found-place}
 
+-- A malformed event is answered by what is wrong with it.
+pub malformed-step : (s : Station) (e : Record) (bearers : List ℕ) (room : ℕ) → wellFormed e ≡ false → stepOf s e bearers room ≡ malformed (flawIn e) s
+malformed-step s e bearers room t = ap (λ (n : ℕ). bySort n e bearers room s) (on-false (wellFormed e) (sortOf (e .kind)) noEvent t)
+
 module _ (s : Station) (e : Record) (bearers : List ℕ) (room : ℕ) (formed : wellFormed e ≡ true) where
   -- A well-formed event does what its sort does.
   pub by-sort : (sort : ℕ) → sortOf (e .kind) ≡ sort → stepOf s e bearers room ≡ bySort sort e bearers room s
-  by-sort sort is = rw formed (ap (λ (n : ℕ). bySort n e bearers room s) is)
+  by-sort sort is = ap (λ (n : ℕ). bySort n e bearers room s) (on-true (wellFormed e) (sortOf (e .kind)) noEvent formed ∙ is)
 
   by-kind : (k : ℕ) → e .kind ≡ k → stepOf s e bearers room ≡ bySort (sortOf k) e bearers room s
   by-kind k kind = by-sort (sortOf k) (ap sortOf kind)
@@ -85,9 +90,9 @@ module _ (s : Station) (e : Record) (bearers : List ℕ) (room : ℕ) (formed : 
   response-step kind = by-kind 8 kind
 
   module _ (kind : e .kind ≡ 1) where
-    -- 1, with too few bearers, one that is malformed, or no room for their verdicts: 1.
-    pub incomplete-step : complete e bearers room ≡ false → stepOf s e bearers room ≡ refused 1 s
-    incomplete-step t = by-kind 1 kind ∙ rw t
+    -- 1, with too few bearers, one that is malformed, or no room for their verdicts: what is wrong.
+    pub incomplete-step : complete e bearers room ≡ false → stepOf s e bearers room ≡ malformed (flawAt e bearers room) s
+    incomplete-step t = by-kind 1 kind ∙ on-false (complete e bearers room) _ _ t
 
     module _ (whole : complete e bearers room ≡ true) where
       -- 1, where a record is held for its neighbour and its Old ID: 3.

@@ -59,7 +59,7 @@ decided-formed e r deadline formed b =
 
 module _ {s : Station} (reached : Reached s) (e : Record) (bearers : List ℕ) (room : ℕ) (formed : wellFormed e ≡ true) where
   part-formed : {a : Answer} → Part s e bearers room a → Formed (a .outcome .message)
-  part-formed (as-refusal n _ _) = unsent
+  part-formed (as-refusal f _) = unsent
   part-formed (as-response _) = unsent
   part-formed (as-failure n _ most _) =
       λ low high. rw (used-in-range 31 (e .neighbour) (neighbour-within e formed), used-in-range 4095 (e .old .0) (old-within e formed), used-in-range 255 n (omega arith))

@@ -64,7 +64,7 @@ module _ (s : Station) (sound : Sound s) (e : Record) (bearers : List ℕ) (room
   Status a = a .outcome .message .kind ≡ 4 → (j : ℕ) × (j < 64) × StatusOf (getD (s .entries) j blank) (a .outcome .message)
 
   part-status : {a : Answer} → Part s e bearers room a → Status a
-  part-status (as-refusal n _ _) four = absurd (omega arith)
+  part-status (as-refusal f _) four = absurd (omega arith)
   part-status (as-response _) four = absurd (omega arith)
   part-status (as-failure n _ _ _) four = absurd (omega arith)
   part-status (as-grant i _ _ _ _ _) four = absurd (omega arith)
@@ -111,7 +111,7 @@ pub record Stores (s : Station) (e : Record) (after : Station) : Type 0 where
 
 module _ (s : Station) (sound : Sound s) (e : Record) (bearers : List ℕ) (room : ℕ) (four : e .kind ≡ 4) where
   part-stores : {a : Answer} → Part s e bearers room a → a .outcome .reply ≡ 0 → Stores s e (a .station)
-  part-stores (as-refusal n low _) zero = absurd (omega arith)
+  part-stores (as-refusal f refusal) zero = absurd (omega (arith, refusal .low))
   part-stores (as-response kind) zero = absurd (omega (arith, rw four at kind))
   part-stores (as-failure n low _ _) zero = absurd (omega arith)
   part-stores (as-grant i _ one _ _ _) zero = absurd (omega arith)

@@ -1,6 +1,6 @@
 -- What a request takes of the bytes after it: as many bearers as it counts, and nothing beyond.
 use Prim.Native.Nat.{ℕ, _*_, _/_, _%_, _≤_, _<_}
-use mathlib.Core.Path.{_≡_}
+use mathlib.Core.Path.{_≡_, _∙_}
 use mathlib.Core.Bool.{true, _&&_}
 use mathlib.Core.List.{List, _++_}
 use borrow.Author.Tests.{leb-true, le-leb, lt-leb}
@@ -14,17 +14,20 @@ use Rattle.bearers.specs.Admission.{countable, judgeable}
 use Rattle.bearers.specs.Bearer.{recordsIn, allBearers}
 use Rattle.fields.specs.Fields.{wellFormed}
 use Rattle.table.specs.declared.Station.{Station}
-use Rattle.table.specs.Step.{refused, complete, taken, stepOf, verdictsOf}
+use Rattle.answers.specs.Answers.{missing}
+use Rattle.table.specs.Step.{malformed, flawAt, complete, taken, stepOf, verdictsOf}
 use Rattle.promises.proofs.Rows.{incomplete-step}
 
 module _ (s : Station) (e : Record) (bearers : List ℕ) where
   module _ (room : ℕ) (formed : wellFormed e ≡ true) (kind : e .kind ≡ 1) where
-    -- "fewer make it malformed"
-    pub too-few : length bearers < e .number * 32 → stepOf s e bearers room ≡ refused 1 s
-    too-few fewer = incomplete-step s e bearers room formed kind (rw (lt-leb (e .number * 32) (length bearers) fewer))
+    -- "13 .. bearers missing"
+    pub too-few : length bearers < e .number * 32 → stepOf s e bearers room ≡ malformed missing s
+    too-few fewer =
+        let few = lt-leb (e .number * 32) (length bearers) fewer in
+        incomplete-step s e bearers room formed kind (rw few) ∙ rw few
 
-    -- "verdict buffer shorter than the count"
-    pub too-short : room < e .number → stepOf s e bearers room ≡ refused 1 s
+    -- "verdict buffer too short": what is wrong is that, or something ahead of it
+    pub too-short : room < e .number → stepOf s e bearers room ≡ malformed (flawAt e bearers room) s
     too-short short = incomplete-step s e bearers room formed kind (refuted (complete e bearers room) never)
       where
         never : complete e bearers room ≡ true → ⊥

@@ -19,7 +19,8 @@ use Rattle.handover.specs.Events.{about, resets, actionOf, message, lastWord, d
 use Rattle.fields.specs.Fields.{allOfNeighbour, sortOf, wellFormed}
 use Rattle.handover.specs.Numbers.{isFree, isOutgoing, blank}
 use Rattle.table.specs.Sound.{Sound}
-use Rattle.table.specs.Step.{refused, carried, resetOf, starting, taken, admission, granted, stepOf}
+use Rattle.bearers.specs.declared.Flaw.{Flaw}
+use Rattle.table.specs.Step.{malformed, carried, resetOf, starting, taken, admission, granted, stepOf}
 use Rattle.table.specs.Table.{find, at}
 use Rattle.promises.specs.Views.{sent, ending, isOtherEnding}
 use Rattle.table.proofs.Changes.{sound-at}
@@ -121,8 +122,8 @@ last-other e r =
 
 module _ (s : Station) (e : Record) where
   -- A refusal leaves all records as they were.
-  refused-turned : (n : ℕ) → Turned s e (refused n s)
-  refused-turned n = record { last = refl; change = λ j h. stays; says = other refl }
+  malformed-turned : (f : Flaw) → Turned s e (malformed f s)
+  malformed-turned f = record { last = refl; change = λ j h. stays; says = other refl }
 
   -- A reset ends every record that it is about.
   reset-turned : sortOf (e .kind) ≡ allOfNeighbour → Turned s e (resetOf e s)
@@ -162,8 +163,8 @@ module _ (s : Station) (sound : Sound s) (e : Record) where
 
 module _ (s : Station) (sound : Sound s) (e : Record) (bearers : List ℕ) (room : ℕ) where
   turn-of : {a : Answer} → Part s e bearers room a → Turn s e a
-  turn-of (as-refusal n _ _) = turns (refused-turned s e n)
-  turn-of (as-response _) = turns (refused-turned s e 0)
+  turn-of (as-refusal f _) = turns (malformed-turned s e f)
+  turn-of (as-response _) = turns (malformed-turned s e (record { reply = 0; offset = 0; place = 0 }))
   turn-of (as-failure n _ _ one) = turns (record { last = refl; change = λ j h. stays; says = refuses n one refl })
   turn-of (as-grant k formed one _ _ free) = admits k free formed one (admission (taken e bearers) s)
   turn-of (as-start k formed nine free) = starts k free formed nine

@@ -144,7 +144,7 @@ module _ (s : Station) (sound : Sound s) (e : Record) (bearers : List ℕ) where
 
   -- Every part of a step accounts for the units: a preparing record has none.
   part-accounts : {room : ℕ} {a : Answer} → Part s e bearers room a → Accounts a e bearers s
-  part-accounts (as-refusal n low _) = record { units = rw (ne-eqb n 0 (λ z. omega arith)) (omega arith); nothing = λ _. refl }
+  part-accounts (as-refusal f refusal) = record { units = rw (ne-eqb (f .reply) 0 (λ z. omega (arith, refusal .low))) (omega arith); nothing = λ _. refl }
   part-accounts (as-response idle) = record { units = rw (no-request (e .kind) noChange idle (λ same. omega arith)) (omega arith); nothing = λ _. refl }
   part-accounts (as-failure n low _ _) = record { units = rw (ne-eqb n 0 (λ z. omega arith)) (omega arith); nothing = λ _. refl }
   part-accounts (as-grant i _ one _ _ _) = record { units = rw one (omega arith); nothing = λ _. refl }

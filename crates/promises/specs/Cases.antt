@@ -21,10 +21,13 @@ pub record Event : Type 0 where
   pub event : Record
   pub bearers : List Record
 
--- what is seen of a step: its reply and ending, how many bearers it admitted, the message that it sends, and the verdicts
+-- what is seen of a step: its reply and ending, which field of which bearer was wrong, how many bearers it admitted, the message that it sends,
+-- and the verdicts
 pub record Seen : Type 0 where
   pub reply : ℕ
   pub ending : ℕ
+  pub offset : ℕ
+  pub place : ℕ
   pub count : ℕ
   pub message : Record
   pub verdicts : List ℕ
@@ -87,6 +90,8 @@ seenOf s e =
     record {
       reply = a .outcome .reply;
       ending = a .outcome .ending;
+      offset = a .outcome .offset;
+      place = a .outcome .place;
       count = a .outcome .count;
       message = a .outcome .message;
       verdicts = verdictsOf s (e .event) (bytesIn (e .bearers)) (buffer e);
@@ -151,10 +156,14 @@ cancel old = alone (message 10 0 old 0 0 0 0)
 
 -- what is seen: of a request, with no ending, how many bearers it admitted; of another event, with no verdicts, the ending
 abbrev pub judged : ℕ → ℕ → Record → List ℕ → Seen
-judged reply count sent verdicts = record { reply = reply; ending = 0; count = count; message = sent; verdicts = verdicts }
+judged reply count sent verdicts = record { reply = reply; ending = 0; offset = 0; place = 0; count = count; message = sent; verdicts = verdicts }
 
 abbrev pub seeing : ℕ → ℕ → Record → Seen
-seeing reply ending sent = record { reply = reply; ending = ending; count = 0; message = sent; verdicts = [] }
+seeing reply ending sent = record { reply = reply; ending = ending; offset = 0; place = 0; count = 0; message = sent; verdicts = [] }
+
+-- of a request with a bearer that is malformed, which field of which one, and no verdict
+abbrev pub wrong : ℕ → ℕ → ℕ → Seen
+wrong reply offset place = record { reply = reply; ending = 0; offset = offset; place = place; count = 0; message = silence; verdicts = 9 ∷ [] }
 
 -- the acknowledge of the request, with New ID 0, and its failure
 abbrev pub acknowledge : ℕ → ℕ → Record
@@ -185,8 +194,8 @@ cases =
     ∷ asked (bearer 5 4 1 10 ∷ []) (judged 5 0 (failure 5) (3 ∷ []))
     -- "QCI 5 without: 0"
     ∷ asked (bearer 5 5 1 10 ∷ []) (judged 0 1 (acknowledge 32 0) (0 ∷ []))
-    -- "priority 16: reply 1"
-    ∷ asked (bearer 5 9 16 10 ∷ []) (judged 1 0 silence (9 ∷ []))
+    -- "priority 16": reply 11 at offset 26, place 1
+    ∷ asked (bearer 5 9 16 10 ∷ []) (wrong 11 26 1)
     -- "start at clock 0, tick 49: 9"
     ∷ record {
       wrapped = false;

@@ -7,7 +7,7 @@ use lib.Dec.{leb, eqb}
 use lib.ListN.{length}
 use Rattle.records.specs.declared.Record.{Record}
 use Rattle.table.specs.declared.Answer.{Answer}
-use Rattle.table.specs.declared.Outcome.{Outcome}
+use Rattle.answers.specs.declared.Outcome.{Outcome}
 use Rattle.table.specs.declared.Station.{Station}
 use Rattle.table.specs.Reached.{Reached}
 use Rattle.table.specs.Step.{stepOf}

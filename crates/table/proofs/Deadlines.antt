@@ -54,7 +54,7 @@ module _ (s : Station) (sound : Sound s) (e : Record) (bearers : List ℕ) (room
       record { place = i; within = found-place s sound isFree i free; own = rw here mine; its = rw here; time = rw here }
 
   part-timed : {a : Answer} → Part s e bearers room a → Timed s e a
-  part-timed (as-refusal n low _) = undone (λ zero. omega arith)
+  part-timed (as-refusal f refusal) = undone (λ zero. omega (arith, refusal .low))
   part-timed (as-response kind) = untimed (λ k. omega (arith, rw k at kind)) (λ k. omega (arith, rw k at kind)) (λ k. omega (arith, rw k at kind))
   part-timed (as-failure n low _ _) = undone (λ zero. omega arith)
   part-timed (as-grant i _ one _ _ free) =

@@ -72,7 +72,7 @@ module _ (s : Station) (sound : Sound s) where
   -- the greatest.
   module _ (e : Record) (bearers : List ℕ) (room : ℕ) where
     sound-part : {a : Answer} → Part s e bearers room a → Sound (a .station)
-    sound-part (as-refusal n _ _) = sound
+    sound-part (as-refusal f _) = sound
     sound-part (as-response _) = sound
     sound-part (as-failure n _ _ _) = sound
     sound-part (as-grant i _ one whole new free) =

@@ -6,7 +6,9 @@ use lib.Dec.{leb, ltb, eqb}
 use lib.ListN.{length, getD, take, replicate}
 use Rattle.records.specs.declared.Record.{Record}
 use Rattle.bearers.specs.declared.Admission.{Admission}
+use Rattle.bearers.specs.declared.Flaw.{Flaw}
 use Rattle.bearers.specs.Admission.{release8, admissionOf, judgeable, verdictsIn, allFive}
+use Rattle.bearers.specs.Flaws.{flawOf}
 use Rattle.bearers.specs.Bearer as bearer
 use Rattle.table.specs.declared.Answer.{Answer}
 use Rattle.table.specs.declared.Birth.{Birth}
@@ -14,7 +16,7 @@ use Rattle.handover.specs.declared.Decision.{Decision}
 use Rattle.handover.specs.declared.Entry.{Entry}
 use Rattle.places.specs.declared.Found.{Found}
 use Rattle.places.specs.declared.Found.the-variants.{At, Nothing}
-use Rattle.table.specs.declared.Outcome.{Outcome}
+use Rattle.answers.specs.Answers.{said, refusal, flawIn, missing}
 use Rattle.table.specs.declared.Settings.{Settings}
 use Rattle.table.specs.declared.Station.{Station}
 use Rattle.handover.specs.Numbers.{isFree, blank, preparing, held, nextAfter, issueFrom}
@@ -24,15 +26,15 @@ use Rattle.table.specs.Table.{find, soonest, at, put, add, reset}
 
 -- an answer: reply, ending, admitted count and message, beside the next station
 abbrev pub answer : ℕ → ℕ → ℕ → Record → Station → Answer
-answer reply ending count sent s = record { outcome = record { reply = reply; ending = ending; count = count; message = sent }; station = s }
+answer reply ending count sent s = record { outcome = said reply ending count sent; station = s }
 
 -- "Any reply but 0 has ending 0": a refusal that changes nothing and sends nothing
 abbrev pub refused : ℕ → Station → Answer
 refused reply s = answer reply 0 0 silence s
 
--- what it says
-abbrev pub quiet : ℕ → Outcome
-quiet reply = record { reply = reply; ending = 0; count = 0; message = silence }
+-- one that says what is wrong with an event
+abbrev pub malformed : Flaw → Station → Answer
+malformed f s = record { outcome = refusal f; station = s }
 
 -- a decision about the record at a place, carried out
 abbrev pub carried : ℕ → Decision → Station → Answer
@@ -83,6 +85,10 @@ taken e bearers = take (e .number * 32) bearers
 abbrev pub complete : Record → List ℕ → ℕ → Bool
 complete e bearers room = leb (e .number * 32) (length bearers) && judgeable (taken e bearers) room
 
+-- what is wrong with it where they are not
+abbrev pub flawAt : Record → List ℕ → ℕ → Flaw
+flawAt e bearers room = cond (leb (e .number * 32) (length bearers)) (flawOf (taken e bearers) room) missing
+
 -- "the free units are the capacity less these"
 abbrev pub freeUnits : Station → ℕ
 freeUnits s = s .settings .capacity - s .used
@@ -128,10 +134,10 @@ abbrev pub verdictsRepeat : List ℕ → Found → Station → List ℕ → List
 verdictsRepeat bearers (At i) s buffer = buffer
 verdictsRepeat bearers Nothing s buffer = verdictsAt bearers (find isFree s) s buffer
 
--- "1, 3, 4, 5 for requests"
+-- "3, 4, 5 for requests", what is malformed ahead of them
 abbrev pub requestOf : Record → List ℕ → ℕ → Station → Answer
 requestOf e bearers room s =
-    cond (complete e bearers room) (repeatOf e (taken e bearers) (find (about e) s) s) (refused 1 s)
+    cond (complete e bearers room) (repeatOf e (taken e bearers) (find (about e) s) s) (malformed (flawAt e bearers room) s)
 
 abbrev pub requestVerdicts : Record → List ℕ → Station → List ℕ → List ℕ
 requestVerdicts e bearers s buffer =
@@ -148,9 +154,9 @@ bySort sort e bearers room s =
     (cond (eqb sort allOfNeighbour) (resetOf e s)
     (cond (eqb sort aRequest) (requestOf e bearers room s)
     (cond (eqb sort noChange) (answer 0 0 0 silence s)
-    (refused 1 s))))))
+    (malformed (flawIn e) s))))))
 
--- one event with the bytes that follow it and so much room for verdicts: 1 ahead of all others
+-- one event with the bytes that follow it and so much room for verdicts: what is malformed ahead of all others
 abbrev pub stepOf : Station → Record → List ℕ → ℕ → Answer
 stepOf s e bearers room = bySort (sortOfEvent e) e bearers room s
 
@@ -171,7 +177,7 @@ isTimer t = leb 1 t && leb t 600000
 abbrev pub settled : Settings → Bool
 settled x = leb (x .capacity) 1000000000 && isTimer (x .prep) && isTimer (x .overall) && isTimer (x .guard)
 
--- "A setting out of range: reply 1 and a fresh station of capacity 0 with all three timers 1 ms."
+-- "16 setting out of range": a fresh station of capacity 0 with all three timers 1 ms."
 abbrev pub least : Settings
 least = record { capacity = 0; prep = 1; overall = 1; guard = 1 }
 
@@ -179,4 +185,4 @@ abbrev pub bornOf : Settings → Station
 bornOf settings = fresh (cond (settled settings) settings least)
 
 abbrev pub birthOf : Settings → Birth
-birthOf settings = record { reply = cond (settled settings) 0 1; station = bornOf settings }
+birthOf settings = record { reply = cond (settled settings) 0 16; station = bornOf settings }

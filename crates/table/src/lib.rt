@@ -1,9 +1,15 @@
 // The handover table of one station: it takes decoded messages, local decisions and clock ticks, and gives the next table, a
 // reply and at most one message to send.
+use answers::Outcome;
+use answers::flaw_in;
+use answers::missing;
+use answers::quiet;
+use answers::refusal;
+use answers::said;
 use bearers::Admission;
 use bearers::Judgement;
 use bearers::admit;
-use bearers::can_judge;
+use bearers::flaw_of;
 use bearers::refuse_all;
 use fields::ALL_OF_NEIGHBOUR;
 use fields::NEW_RECORD;
@@ -23,7 +29,6 @@ use handover::events::is_reset;
 use handover::events::key_of;
 use handover::events::message;
 use handover::events::reset_word;
-use handover::events::silence;
 use handover::numbers::blank;
 use handover::numbers::held;
 use handover::numbers::preparing;
@@ -41,13 +46,14 @@ ghost use Prim.Native.Nat.{_-_, _/_, _≤_, _<_};
 ghost use mathlib.Core.Bool.{cond, _&&_, _||_};
 ghost use mathlib.Core.List.{[]};
 ghost use Rattle.bearers.specs.Admission.{judgeable, allFive};
+ghost use Rattle.bearers.specs.Flaws.{flawOf};
 ghost use lib.ListN.{length, getD};
 ghost use Rattle.handover.specs.Numbers.{isFree};
 ghost use Rattle.table.specs.Table.{find as findOf, Puts, reset as resetTo};
 ghost use Rattle.places.specs.declared.Found.the-variants.{At};
 ghost use Rattle.table.specs.Sound.{Sound};
 ghost use Rattle.table.specs.Reached.{Reached};
-ghost use Rattle.table.specs.Step.{quiet as quietOf, refused as refusedOf, carried as carriedOf, aboutOne, tickOf, startAt, resetOf, failure as failureOf, granted, grantAt, admittedAt, verdictsAt, requestOf, requestVerdicts, stepOf, verdictsOf, isTimer, settled, fresh as freshOf, birthOf};
+ghost use Rattle.table.specs.Step.{malformed as malformedOf, carried as carriedOf, aboutOne, tickOf, startAt, resetOf, failure as failureOf, granted, grantAt, admittedAt, verdictsAt, requestOf, requestVerdicts, stepOf, verdictsOf, isTimer, settled, fresh as freshOf, birthOf};
 ghost use Rattle.handover.specs.Events.{about};
 
 // The capacity in units, and TRELOCprep, TX2RELOCoverall and the guard in ms.
@@ -66,20 +72,12 @@ pub struct Station {
     last: u16,
 }
 
-// What a step answers: the message is all zeros if none is to be sent.
-pub struct Outcome {
-    pub reply: u8,
-    pub ending: u8,
-    pub count: u32,
-    pub message: Record,
-}
-
 pub struct Answer {
     pub outcome: Outcome,
     pub station: Station,
 }
 
-// A station at its birth: reply 1 if a setting was out of range.
+// A station at its birth: reply 16 if a setting was out of range.
 pub struct Birth {
     pub reply: u8,
     pub station: Station,
@@ -89,18 +87,6 @@ pub struct Birth {
 pub struct Best {
     place: usize,
     entry: Entry,
-}
-
-// A reply that changes nothing and sends nothing.
-fn quiet(reply: u8) -> Outcome
-    ensures { λ o. ⌜ o ≡ quietOf reply ⌝ }
-{
-    Outcome {
-        reply,
-        ending: 0,
-        count: 0,
-        message: silence(),
-    }
 }
 
 // A timer is 1 to 600,000 ms.
@@ -133,7 +119,7 @@ fn fresh(settings: Settings) -> Station
 
 impl Station {
     // A fresh station with these settings: capacity 0 to 1,000,000,000 units, timers 1 to 600,000 ms. If one is out of range
-    // the reply is 1, and the station has capacity 0 and timers of 1 ms.
+    // the reply is 16, and the station has capacity 0 and timers of 1 ms.
     pub fn new(settings: Settings) -> Birth
         ensures { λ r. ⌜ (r ≡ birthOf settings) × Reached (r .station) ⌝ }
     {
@@ -150,7 +136,7 @@ impl Station {
             guard: 1,
         };
         Birth {
-            reply: 1,
+            reply: 16,
             station: fresh(least),
         }
     }
@@ -166,12 +152,7 @@ impl Station {
         self.used = self.used - before.units + r.units;
         self.entries[i] = r;
         Answer {
-            outcome: Outcome {
-                reply: d.reply,
-                ending: d.ending,
-                count: 0,
-                message: m,
-            },
+            outcome: said(d.reply, d.ending, 0, m),
             station: self,
         }
     }
@@ -261,12 +242,12 @@ impl Station {
         let deadline = self.clock + self.settings.prep as u64;
         self.entries[i] = preparing(e.neighbour, OldId(old), e.first, deadline);
         Answer {
-            outcome: Outcome {
-                reply: 0,
-                ending: 0,
-                count: 0,
-                message: message(1, e.neighbour, OldId(old), NewId(0), e.first, 0, 0),
-            },
+            outcome: said(
+                0,
+                0,
+                0,
+                message(1, e.neighbour, OldId(old), NewId(0), e.first, 0, 0),
+            ),
             station: self,
         }
     }
@@ -293,12 +274,12 @@ impl Station {
         ensures { λ a. ⌜ a ≡ resetOf e self ⌝ }
     {
         Answer {
-            outcome: Outcome {
-                reply: 0,
-                ending: 10,
-                count: 0,
-                message: message(reset_word(e.kind), e.neighbour, OldId(0), NewId(0), 0, 0, 0),
-            },
+            outcome: said(
+                0,
+                10,
+                0,
+                message(reset_word(e.kind), e.neighbour, OldId(0), NewId(0), 0, 0, 0),
+            ),
             station: self.reset(e),
         }
     }
@@ -308,12 +289,12 @@ impl Station {
         ensures { λ a. ⌜ a ≡ failureOf reply e self ⌝ }
     {
         Answer {
-            outcome: Outcome {
+            outcome: said(
                 reply,
-                ending: 0,
-                count: 0,
-                message: message(3, e.neighbour, e.old, NewId(0), 0, 0, reply),
-            },
+                0,
+                0,
+                message(3, e.neighbour, e.old, NewId(0), 0, 0, reply),
+            ),
             station: self,
         }
     }
@@ -348,23 +329,24 @@ impl Station {
         let deadline = self.clock + self.settings.guard as u64;
         self.entries[i] = held(e.neighbour, old, NewId(new), a.admitted, a.units, deadline);
         Answer {
-            outcome: Outcome {
-                reply: 0,
-                ending: 0,
-                count: a.count,
-                message: message(2, e.neighbour, old, NewId(new), a.admitted, a.refused, 0),
-            },
+            outcome: said(
+                0,
+                0,
+                a.count,
+                message(2, e.neighbour, old, NewId(new), a.admitted, a.refused, 0),
+            ),
             station: self,
         }
     }
 
     // A request that finds the table full.
     fn full(self, e: Record, bearers: &[u8], verdicts: &mut [u8]) -> Answer
-        ensures { λ a. ⌜ (a ≡ cond (judgeable (now (bearers .entry)) (length (now (verdicts .entry)))) (failureOf 4 e self) (refusedOf 1 self)) × (now (verdicts .exit) ≡ cond (judgeable (now (bearers .entry)) (length (now (verdicts .entry)))) (allFive (length (now (bearers .entry)) / 32) (now (verdicts .entry))) (now (verdicts .entry))) ⌝ }
+        ensures { λ a. ⌜ (a ≡ cond (judgeable (now (bearers .entry)) (length (now (verdicts .entry)))) (failureOf 4 e self) (malformedOf (flawOf (now (bearers .entry)) (length (now (verdicts .entry)))) self)) × (now (verdicts .exit) ≡ cond (judgeable (now (bearers .entry)) (length (now (verdicts .entry)))) (allFive (length (now (bearers .entry)) / 32) (now (verdicts .entry))) (now (verdicts .entry))) ⌝ }
     {
-        if !can_judge(bearers, verdicts.len()) {
+        let flaw = flaw_of(bearers, verdicts.len());
+        if !(flaw.reply == 0) {
             return Answer {
-                outcome: quiet(1),
+                outcome: refusal(flaw),
                 station: self,
             };
         }
@@ -375,7 +357,7 @@ impl Station {
     // A request that no held record repeats.
     fn admitted(self, e: Record, bearers: &[u8], verdicts: &mut [u8]) -> Answer
         requires { ⌜ Sound self ⌝ }
-        ensures { λ a. ⌜ (a ≡ cond (judgeable (now (bearers .entry)) (length (now (verdicts .entry)))) (admittedAt e (now (bearers .entry)) (findOf isFree self) self) (refusedOf 1 self)) × (now (verdicts .exit) ≡ cond (judgeable (now (bearers .entry)) (length (now (verdicts .entry)))) (verdictsAt (now (bearers .entry)) (findOf isFree self) self (now (verdicts .entry))) (now (verdicts .entry))) ⌝ }
+        ensures { λ a. ⌜ (a ≡ cond (judgeable (now (bearers .entry)) (length (now (verdicts .entry)))) (admittedAt e (now (bearers .entry)) (findOf isFree self) self) (malformedOf (flawOf (now (bearers .entry)) (length (now (verdicts .entry)))) self)) × (now (verdicts .exit) ≡ cond (judgeable (now (bearers .entry)) (length (now (verdicts .entry)))) (verdictsAt (now (bearers .entry)) (findOf isFree self) self (now (verdicts .entry))) (now (verdicts .entry))) ⌝ }
     {
         let entries = self.entries;
         let found = vacant(entries);
@@ -384,8 +366,8 @@ impl Station {
                 let judged = admit(bearers, self.settings.capacity - self.used, verdicts);
                 match judged {
                     Judgement::Given(a) => self.grant(e, a, i),
-                    Judgement::Malformed => Answer {
-                        outcome: quiet(1),
+                    Judgement::Flawed(flaw) => Answer {
+                        outcome: refusal(flaw),
                         station: self,
                     },
                 }
@@ -402,7 +384,7 @@ impl Station {
         let size = e.number as usize * SIZE;
         if bearers.len() < size {
             return Answer {
-                outcome: quiet(1),
+                outcome: refusal(missing()),
                 station: self,
             };
         }
@@ -410,10 +392,15 @@ impl Station {
         let found = find(entries, e);
         match found {
             Found::At(_) => {
-                let judged = can_judge(&bearers[..size], verdicts.len());
-                let reply = if judged { 3 } else { 1 };
+                let flaw = flaw_of(&bearers[..size], verdicts.len());
+                if flaw.reply == 0 {
+                    return Answer {
+                        outcome: quiet(3),
+                        station: self,
+                    };
+                }
                 Answer {
-                    outcome: quiet(reply),
+                    outcome: refusal(flaw),
                     station: self,
                 }
             }
@@ -439,9 +426,14 @@ impl Station {
         if sort == ALL_OF_NEIGHBOUR {
             return self.reset_by(e);
         }
-        let reply = if sort == NO_CHANGE { 0 } else { 1 };
+        if sort == NO_CHANGE {
+            return Answer {
+                outcome: quiet(0),
+                station: self,
+            };
+        }
         Answer {
-            outcome: quiet(reply),
+            outcome: refusal(flaw_in(e)),
             station: self,
         }
     }

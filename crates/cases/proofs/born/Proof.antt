@@ -23,7 +23,7 @@ field-requires : tie.Need-field-requires
 field-requires c κs = search needs
 
 returns : tie.Need-returns
-returns c = record { reached = c .before .before .before .before .new .ensures .1; at = omega arith; first = omega arith }
+returns c = record { reached = c .before .before .before .before .before .new .ensures .1; at = omega arith; first = omega arith }
 
 pub born-spec : {M : Type 1} → statement M
 born-spec =

@@ -1,16 +1,16 @@
 -- A record of another kind than a request's has no use for bearers and verdicts, so that a step alone answers it.
 use Prim.Native.Nat.{ℕ, _≤_}
-use mathlib.Core.Path.{_≡_, refl, sym, _∙_}
+use mathlib.Core.Path.{_≡_, sym, _∙_}
 use mathlib.Core.Bool.{false}
 use mathlib.Core.List.{List, []}
-use borrow.Author.Tests.{leb-true, ne-eqb}
+use borrow.Author.Tests.{leb-true, leb-false, le-ltb, lt-ltb, ne-eqb}
 use lib.Dec.{eqb}
 use lib.ListN.{length, drop}
-use Rattle.records.specs.Record.{zeros, recordAt, roomAt, readAt}
+use Rattle.records.specs.Record.{recordAt, roomAt, readAt}
 use Rattle.records.specs.Stream.{pieceOf}
 use Rattle.records.specs.declared.Record.{Record}
 use Rattle.records.specs.declared.Read.the-variants.{Whole}
-use Rattle.records.proofs.Rest.{was-whole, head-whole, head-short}
+use Rattle.records.proofs.Rest.{was-whole, was-short, head-whole}
 use Rattle.table.specs.declared.Answer.{Answer}
 use Rattle.table.specs.declared.Station.{Station}
 use Rattle.table.specs.Reached.{Reached}
@@ -29,11 +29,8 @@ read-requires c κs = search needs
 enum-told : tie.Need-enum-told
 enum-told c = search needs
 
-zeros-requires : tie.Need-zeros-requires
-zeros-requires c κs = search needs
-
-step-requires : tie.Need-step-requires
-step-requires c κs = search needs
+quiet-requires : tie.Need-quiet-requires
+quiet-requires c κs = search needs
 
 enum-known-read : tie.Need-enum-known-read
 enum-known-read c = search needs
@@ -68,32 +65,33 @@ returns : tie.Need-returns
 returns c =
     let known = c .before .before .before .before .before .before .before .before in
     let ensures = c .before .before .request .ensures in
-    rw (head-whole (event known) _ (given known), ← part (event known) 32) ensures
+    rw (le-ltb (length (event known)) 32 (long known), head-whole (event known) _ (given known), ← part (event known) 32) ensures
 
-step-requires-2 : tie.Need-step-requires-2
-step-requires-2 c κs = search needs
+step-requires : tie.Need-step-requires
+step-requires c κs = search needs
 
 -- the answer to a record that is no request
-alone : (s : Station) (event buffer : List ℕ) (r : Record) (a : Answer) → pieceOf event .head ≡ r → eqb (r .kind) 1 ≡ false → a ≡ stepOf s r [] 0 → Reached (a .station)
+alone : (s : Station) (event buffer : List ℕ) (r : Record) (a : Answer) → 32 ≤ length event → pieceOf event .head ≡ r → eqb (r .kind) 1 ≡ false → a ≡ stepOf s r [] 0 → Reached (a .station)
     → (a ≡ answerTo (length buffer) s event) × (buffer ≡ verdictsTo s event buffer) × Reached (a .station)
-alone s event buffer r a head other answer reached =
+alone s event buffer r a long head other answer reached =
     let plain = no-request r other in
-    rw head (answer ∙ alone-step s r (drop 32 event) (length buffer) plain, sym (alone-verdicts s r (drop 32 event) buffer plain), reached)
+    rw (le-ltb (length event) 32 long, head) (answer ∙ alone-step s r (drop 32 event) (length buffer) plain, sym (alone-verdicts s r (drop 32 event) buffer plain), reached)
 
 returns-2 : tie.Need-returns-2
 returns-2 c =
-    let a = c .before .before .before .before .before .before .before .args in
-    let read = c .before .before .before .before .read .ensures in
-    alone (a .station) (a .event .now) (a .verdicts .now) zeros (c .step .result) (head-short (a .event .now) (sym read ∙ c .before .before .enum-told .given .1)) refl
-    (rw (c .before .zeros .ensures) at (c .step .ensures .0)) (c .step .ensures .1)
+    let a = c .before .before .before .before .before .before .args in
+    let read = c .before .before .before .read .ensures in
+    let event = a .event .now in
+    let short = lt-ltb (length event) 32 (leb-false 32 (length event) (was-short (roomAt event 0) (recordAt event 0) (sym read ∙ c .before .enum-told .given .1))) in
+    (rw (short, c .quiet .ensures), rw short, c .before .before .before .before .before .before .pre)
 
 returns-3 : tie.Need-returns-3
 returns-3 c =
     let known = c .before .before .before .before in
     let a = known .before .before .before .before .before .args in
     let r = known .read2 .given .0 .0 in
-    alone (a .station) (a .event .now) (a .verdicts .now) r (c .step2 .result) (head-whole (event known) r (given known)) (ne-eqb (r .kind) 1 (c .before .if1 .left))
-    (c .step2 .ensures .0) (c .step2 .ensures .1)
+    alone (a .station) (a .event .now) (a .verdicts .now) r (c .step .result) (long known) (head-whole (event known) r (given known)) (ne-eqb (r .kind) 1 (c .before .if1 .left))
+    (c .step .ensures .0) (c .step .ensures .1)
 
 pub answered-spec : {M : Type 1} → statement M
 answered-spec =
@@ -101,8 +99,7 @@ answered-spec =
     (tie.spec
     read-requires
     enum-told
-    zeros-requires
-    step-requires
+    quiet-requires
     enum-known-read
     sub-request
     part-request-start
@@ -110,6 +107,6 @@ answered-spec =
     request-requires
     same-length
     returns
-    step-requires-2
+    step-requires
     returns-2
     returns-3)

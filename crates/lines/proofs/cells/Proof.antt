@@ -15,13 +15,13 @@ use Rattle.lines.proofs.cells.Tie as tie
 -- so far: each number took at most its room
 abbrev Inv-loop : tie.InvT-loop
 Inv-loop out₀ at numbers place₀ i₀ out place i =
-    (i ≤ 8)
+    (i ≤ 10)
     × (length out ≡ length out₀)
     × (place ≤ at + cellRoom * i)
     × Completes out₀ out at (spaced numbers) place (spaced (drop i numbers))
 
 abbrev μ-loop : tie.MeasureT-loop
-μ-loop out₀ at numbers place₀ i₀ out place i = 8 - i
+μ-loop out₀ at numbers place₀ i₀ out place i = 10 - i
 
 loop-holds : tie.Need-loop-holds Inv-loop μ-loop
 loop-holds c = (omega arith, refl, omega arith, stored _ _ _)

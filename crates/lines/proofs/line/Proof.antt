@@ -1,6 +1,7 @@
--- Eight numbers with a space after each, and the last with a line feed.
+-- Ten numbers with a space after each, and the last with a line feed.
+use mathlib.Core.Path.{refl}
 use native.Mathlib.Omega.{arith}
-use Rattle.lines.specs.Lines.{firstEight}
+use Rattle.lines.specs.Lines.{firstTen}
 use Rattle.buffers.proofs.Lengths.{spaced-most}
 use Rattle.buffers.proofs.Writing.{joined}
 use borrow.Author.Needs.{needs}
@@ -28,17 +29,23 @@ cast-t15 c = search needs
 cast-t16 : tie.Need-cast-t16
 cast-t16 c = search needs
 
+cast-t17 : tie.Need-cast-t17
+cast-t17 c = search needs
+
+cast-t18 : tie.Need-cast-t18
+cast-t18 c = search needs
+
 cells-requires : tie.Need-cells-requires
-cells-requires c κs = search needs
+cells-requires c κs = (refl, omega (arith, c .before .before .before .before .before .before .before .before .before .before .before .before .before .before .pre))
 
 cast-cell-2 : tie.Need-cast-cell-2
 cast-cell-2 c = search needs
 
 cell-requires : tie.Need-cell-requires
 cell-requires c κs =
-    let start = c .before .before .before .before .before .before .before .before .before .before .before .before .before .before .before .before .before in
+    let start = c .before .before .before .before .before .before .before .before .before .before .before .before .before .before .before .before .before .before .before in
     let written = c .before .before .before .before .cells in
-    omega (arith, spaced-most (firstEight (start .args .place) (start .args .o)))
+    omega (arith, spaced-most (firstTen (start .args .place) (start .args .o)))
 
 same-length : tie.Need-same-length
 same-length c = search needs
@@ -58,6 +65,8 @@ line-spec =
     cast-t14
     cast-t15
     cast-t16
+    cast-t17
+    cast-t18
     cells-requires
     cast-cell-2
     cell-requires

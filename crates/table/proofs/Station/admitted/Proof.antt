@@ -10,7 +10,7 @@ use Rattle.handover.specs.Numbers.{isFree}
 use Rattle.table.specs.Step.{admission, freeUnits, grantAt}
 use Rattle.table.specs.Table.{find}
 use Rattle.table.proofs.Placing.{found-place}
-use Rattle.table.proofs.Requests.{given, malformed, units-free}
+use Rattle.table.proofs.Requests.{given, flawed, flawed-answer, units-free}
 use borrow.Author.Needs.{needs}
 use Rattle.table.proofs.Station.admitted.Statement.{statement}
 use Rattle.table.proofs.Station.admitted.Tie as tie
@@ -49,14 +49,14 @@ grant-requires c κs =
       c .before .before .before .before .before .before .before .before .before .before .before .before .before .before .before .pre,
     )
 
+enum-known-judged-2 : tie.Need-enum-known-judged-2
+enum-known-judged-2 c = search needs
+
+refusal-requires : tie.Need-refusal-requires
+refusal-requires c κs = search needs
+
 enum-told : tie.Need-enum-told
 enum-told c = search needs
-
-quiet-requires : tie.Need-quiet-requires
-quiet-requires c κs = search needs
-
-enum-told-2 : tie.Need-enum-told-2
-enum-told-2 c = search needs
 
 full-requires : tie.Need-full-requires
 full-requires c κs = search needs
@@ -78,17 +78,19 @@ same-length-2 c = search needs
 
 returns-2 : tie.Need-returns-2
 returns-2 c =
-    let a = c .before .before .before .before .before .before .before .before .before .before .before .before .before .before .before .args in
-    let admit = c .before .before .before .before .before .admit .ensures in
-    let bad = malformed (a .bearers .now) (freeUnits (a .self)) (length (a .verdicts .now)) (sym (admit .0) ∙ c .before .enum-told .given .1) in
-    (rw (bad, c .quiet .ensures), rw bad (admit .1 ∙ rw bad))
+    let a = c .before .before .before .before .before .before .before .before .before .before .before .before .before .before .before .before .args in
+    let admit = c .before .before .before .before .before .before .admit .ensures in
+    let flaw = flawed (a .bearers .now) (freeUnits (a .self)) (length (a .verdicts .now)) _ (sym (admit .0) ∙ c .before .before .judged2 .given .1) in (
+      flawed-answer (a .bearers .now) 0 (length (a .verdicts .now)) (a .self) _ _ _ (flaw .0) (sym (flaw .1)) (c .refusal .ensures),
+      admit .1 ∙ rw (flaw .0),
+    )
 
 same-length-3 : tie.Need-same-length-3
 same-length-3 c = search needs
 
 returns-3 : tie.Need-returns-3
 returns-3 c =
-    let none : find isFree (c .before .before .before .before .before .before .before .before .before .before .args .self) ≡ Nothing = sym (c .before .before .before .before .before .before .vacant .ensures (c .before .before .before .before .before .before .before .before .before .before .pre .places)) ∙ c .before .before .before .before .enum-told2 .given .1 in
+    let none : find isFree (c .before .before .before .before .before .before .before .before .before .before .args .self) ≡ Nothing = sym (c .before .before .before .before .before .before .vacant .ensures (c .before .before .before .before .before .before .before .before .before .before .pre .places)) ∙ c .before .before .before .before .enum-told .given .1 in
     (rw none (c .before .before .full .ensures .0), rw none (c .before .before .full .ensures .1))
 
 pub admitted-spec : {M : Type 1} → statement M
@@ -101,9 +103,9 @@ admitted-spec =
     admit-requires
     enum-known-judged
     grant-requires
+    enum-known-judged-2
+    refusal-requires
     enum-told
-    quiet-requires
-    enum-told-2
     full-requires
     same-length
     returns

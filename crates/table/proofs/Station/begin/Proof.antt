@@ -37,11 +37,14 @@ element-set-from-self c = search needs
 message-requires : tie.Need-message-requires
 message-requires c κs = search needs
 
+said-requires : tie.Need-said-requires
+said-requires c κs = search needs
+
 returns-2 : tie.Need-returns-2
 returns-2 c =
-    let sound = c .before .before .before .before .before .before .pre .1 in
-    let action = c .before .before .before .before .before .action-of in
-    rw (← action .ensures, not-false (eqb (action .result) 14) (c .before .before .before .before .if1 .left), c .message .ensures, c .before .preparing .ensures, c .before .before .issue .ensures (sound .places) (sound .last) .0, add-zero (c .before .before .before .before .before .before .args .t1 .used))
+    let sound = c .before .before .before .before .before .before .before .pre .1 in
+    let action = c .before .before .before .before .before .before .action-of in
+    rw (← action .ensures, not-false (eqb (action .result) 14) (c .before .before .before .before .before .if1 .left), c .said .ensures, c .before .message .ensures, c .before .before .preparing .ensures, c .before .before .before .issue .ensures (sound .places) (sound .last) .0, add-zero (c .before .before .before .before .before .before .before .args .t1 .used))
 
 pub begin-spec : {M : Type 1} → statement M
 begin-spec =
@@ -57,4 +60,5 @@ begin-spec =
     mul-t19
     element-set-from-self
     message-requires
+    said-requires
     returns-2)

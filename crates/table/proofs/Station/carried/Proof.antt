@@ -1,5 +1,4 @@
 -- The record's next value is stored, and the units in use are those of all records again.
-use mathlib.Core.Path.{refl}
 use borrow.Author.Needs.{needs}
 use Rattle.table.proofs.Station.carried.Statement.{statement}
 use Rattle.table.proofs.Station.carried.Tie as tie
@@ -22,8 +21,11 @@ mul-r c = search needs
 element-set-from-r : tie.Need-element-set-from-r
 element-set-from-r c = search needs
 
+said-requires : tie.Need-said-requires
+said-requires c κs = search needs
+
 returns : tie.Need-returns
-returns c = refl
+returns c = rw (c .said .ensures)
 
 pub carried-spec : {M : Type 1} → statement M
-carried-spec = tie.close (tie.spec mul-before element-copy-out-before sub-self add-self mul-r element-set-from-r returns)
+carried-spec = tie.close (tie.spec mul-before element-copy-out-before sub-self add-self mul-r element-set-from-r said-requires returns)

@@ -27,10 +27,13 @@ element-set-from-self c = search needs
 message-requires : tie.Need-message-requires
 message-requires c κs = search needs
 
+said-requires : tie.Need-said-requires
+said-requires c κs = search needs
+
 returns : tie.Need-returns
 returns c =
-    let sound = c .before .before .before .before .before .before .pre .2 in
-    rw (c .message .ensures, c .before .held .ensures, c .before .before .before .before .issue .ensures (sound .places) (sound .last) .0)
+    let sound = c .before .before .before .before .before .before .before .pre .2 in
+    rw (c .said .ensures, c .before .message .ensures, c .before .before .held .ensures, c .before .before .before .before .before .issue .ensures (sound .places) (sound .last) .0)
 
 pub hold-spec : {M : Type 1} → statement M
 hold-spec =
@@ -44,4 +47,5 @@ hold-spec =
     mul-t17
     element-set-from-self
     message-requires
+    said-requires
     returns)

@@ -1,11 +1,13 @@
 -- Too few bytes; a repeated request, of which only the bearers are looked at; or one to be judged.
 use borrow.Author.Tests.{le-leb, lt-leb}
 use Prim.Native.Nat.{_*_}
-use mathlib.Core.Logic.{⊎-elim}
-use mathlib.Core.Path.{_∙_, sym}
+use mathlib.Core.Path.{_∙_, sym, ap}
 use native.Mathlib.Omega.{arith}
 use lib.ListN.{length}
 use lib.Seq.{length-take-le}
+use Rattle.bearers.specs.declared.Flaw.{Flaw}
+use Rattle.table.specs.Step.{taken}
+use Rattle.table.proofs.Requests.{nothing-wrong, something-wrong, flawed-answer, kept-buffer}
 use borrow.Author.Needs.{needs}
 use Rattle.table.proofs.Station.requested.Statement.{statement}
 use Rattle.table.proofs.Station.requested.Tie as tie
@@ -16,14 +18,17 @@ cast-size c = search needs
 mul-size : tie.Need-mul-size
 mul-size c = search needs
 
-quiet-requires : tie.Need-quiet-requires
-quiet-requires c κs = search needs
+missing-requires : tie.Need-missing-requires
+missing-requires c κs = search needs
+
+refusal-requires : tie.Need-refusal-requires
+refusal-requires c κs = search needs
 
 returns : tie.Need-returns
 returns c =
-    let a = c .before .before .before .before .before .args in
-    let few = lt-leb (a .e .number * 32) (length (a .bearers .now)) (c .before .if1 .taken) in
-    (rw (few, c .quiet .ensures), rw few)
+    let a = c .before .before .before .before .before .before .args in
+    let few = lt-leb (a .e .number * 32) (length (a .bearers .now)) (c .before .before .if1 .taken) in
+    (rw (few, c .refusal .ensures, c .before .missing .ensures), rw few)
 
 find-requires : tie.Need-find-requires
 find-requires c κs = search needs
@@ -31,14 +36,26 @@ find-requires c κs = search needs
 enum-told : tie.Need-enum-told
 enum-told c = search needs
 
-slice-aggregate-can-judge : tie.Need-slice-aggregate-can-judge
-slice-aggregate-can-judge c = sym (length-take-le _ (c .before .before .before .before .before .before .before .before .before .args .bearers .now) (omega arith))
+slice-aggregate-flaw-of : tie.Need-slice-aggregate-flaw-of
+slice-aggregate-flaw-of c = sym (length-take-le _ (c .before .before .before .before .before .before .before .before .before .args .bearers .now) (omega arith))
 
-can-judge-requires : tie.Need-can-judge-requires
-can-judge-requires c κs = search needs
+flaw-of-requires : tie.Need-flaw-of-requires
+flaw-of-requires c κs = search needs
 
-quiet-requires-2 : tie.Need-quiet-requires-2
-quiet-requires-2 c κs = search needs
+quiet-requires : tie.Need-quiet-requires
+quiet-requires c κs = search needs
+
+returns-2 : tie.Need-returns-2
+returns-2 c =
+    let a = c .before .before .before .before .before .before .before .before .before .before .before .before .before .args in
+    let enough = le-leb (a .e .number * 32) (length (a .bearers .now)) (c .before .before .before .before .before .before .before .before .before .if1 .left) in
+    let flaw = c .before .before .before .flaw-of in
+    let there = sym (c .before .before .before .before .before .before .before .find .ensures (c .before .before .before .before .before .before .before .before .before .before .before .before .before .pre .1 .places)) ∙ c .before .before .before .before .before .enum-told .given .1 in
+    let judged = nothing-wrong (taken (a .e) (a .bearers .now)) 0 (length (a .verdicts .now)) (sym (ap (λ (f : Flaw). f .reply) (flaw .ensures)) ∙ c .before .if2 .taken) in
+    (rw (enough, judged, there, c .quiet .ensures), rw (enough, judged, there))
+
+refusal-requires-2 : tie.Need-refusal-requires-2
+refusal-requires-2 c κs = search needs
 
 enum-told-2 : tie.Need-enum-told-2
 enum-told-2 c = search needs
@@ -49,22 +66,21 @@ slice-aggregate-admitted c = sym (length-take-le _ (c .before .before .before .b
 admitted-requires : tie.Need-admitted-requires
 admitted-requires c κs = search needs
 
-returns-2 : tie.Need-returns-2
-returns-2 c =
-    let a = c .before .before .before .before .before .before .before .before .before .before .before .before .args in
-    let enough = le-leb (a .e .number * 32) (length (a .bearers .now)) (c .before .before .before .before .before .before .before .before .if1 .left) in
-    let there = sym (c .before .before .before .before .before .before .find .ensures (c .before .before .before .before .before .before .before .before .before .before .before .before .pre .1 .places)) ∙ c .before .before .before .before .enum-told .given .1 in
-    let judged = sym (c .before .before .can-judge .ensures) in
-    ⊎-elim
-    (λ t. (rw (enough, judged ∙ t .0 .taken, there, c .quiet2 .ensures, t .1), rw (enough, judged ∙ t .0 .taken, there)))
-    (λ t. (rw (enough, judged ∙ t .0 .left, c .quiet2 .ensures, t .1), rw (enough, judged ∙ t .0 .left)))
-    (c .before .if2 .came)
+returns-3 : tie.Need-returns-3
+returns-3 c =
+    let a = c .before .before .before .before .before .before .before .before .before .before .before .before .before .args in
+    let enough = le-leb (a .e .number * 32) (length (a .bearers .now)) (c .before .before .before .before .before .before .before .before .before .if1 .left) in
+    let flaw = c .before .before .before .flaw-of in
+    let bad = something-wrong (taken (a .e) (a .bearers .now)) 0 (length (a .verdicts .now)) (λ zero. c .before .if2 .left (ap (λ (f : Flaw). f .reply) (flaw .ensures) ∙ zero)) in (
+      rw enough (flawed-answer (taken (a .e) (a .bearers .now)) 0 (length (a .verdicts .now)) (a .self) (flaw .result) _ _ bad (flaw .ensures) (c .refusal2 .ensures)),
+      rw enough (kept-buffer (taken (a .e) (a .bearers .now)) 0 (length (a .verdicts .now)) _ _ bad),
+    )
 
 same-length : tie.Need-same-length
 same-length c = search needs
 
-returns-3 : tie.Need-returns-3
-returns-3 c =
+returns-4 : tie.Need-returns-4
+returns-4 c =
     let a = c .before .before .before .before .before .before .before .before .before .before .before .before .before .args in
     let enough = le-leb (a .e .number * 32) (length (a .bearers .now)) (c .before .before .before .before .before .before .before .before .before .if1 .left) in
     let none = sym (c .before .before .before .before .before .before .before .find .ensures (c .before .before .before .before .before .before .before .before .before .before .before .before .before .pre .1 .places)) ∙ c .before .before .before .before .before .enum-told2 .given .1 in
@@ -77,16 +93,19 @@ requested-spec =
     (tie.spec
     cast-size
     mul-size
-    quiet-requires
+    missing-requires
+    refusal-requires
     returns
     find-requires
     enum-told
-    slice-aggregate-can-judge
-    can-judge-requires
-    quiet-requires-2
+    slice-aggregate-flaw-of
+    flaw-of-requires
+    quiet-requires
+    returns-2
+    refusal-requires-2
     enum-told-2
     slice-aggregate-admitted
     admitted-requires
-    returns-2
+    returns-3
     same-length
-    returns-3)
+    returns-4)

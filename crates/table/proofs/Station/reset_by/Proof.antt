@@ -9,11 +9,14 @@ reset-word-requires c κs = search needs
 message-requires : tie.Need-message-requires
 message-requires c κs = search needs
 
+said-requires : tie.Need-said-requires
+said-requires c κs = search needs
+
 reset-requires : tie.Need-reset-requires
 reset-requires c κs = search needs
 
 returns : tie.Need-returns
-returns c = rw (c .reset .ensures, c .before .message .ensures, c .before .before .reset-word .ensures)
+returns c = rw (c .reset .ensures, c .before .said .ensures, c .before .before .message .ensures, c .before .before .before .reset-word .ensures)
 
 pub reset-by-spec : {M : Type 1} → statement M
-reset-by-spec = tie.close (tie.spec reset-word-requires message-requires reset-requires returns)
+reset-by-spec = tie.close (tie.spec reset-word-requires message-requires said-requires reset-requires returns)

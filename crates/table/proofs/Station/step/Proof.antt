@@ -1,19 +1,14 @@
 -- Each sort has its arm, and what is left is refused: a request lacks its bearers here.
 use borrow.Author.Tests.{eq-eqb, ne-eqb}
-use mathlib.Core.Bool.{false, and-false}
 use mathlib.Core.List.{[]}
-use mathlib.Core.Logic.{⊎-elim}
-use mathlib.Core.Path.{_≡_, sym}
-use Prim.Native.Nat.{_*_}
-use lib.Dec.{leb, eqb}
-use lib.Seq.{take-nil}
-use Rattle.laws.proofs.Tests.{on-either}
-use Rattle.records.specs.declared.Record.{Record}
-use Rattle.fields.specs.Fields.{oneRecord, allOfNeighbour, soonestDue, newRecord, aRequest, noChange}
+use mathlib.Core.Path.{_≡_, ap, _∙_}
+use Rattle.fields.specs.Fields.{oneRecord, allOfNeighbour, soonestDue, newRecord, noChange}
+use Rattle.answers.specs.Answers.{refusal}
 use Rattle.table.specs.declared.Answer.{Answer}
 use Rattle.table.specs.Reached.{Reached}
-use Rattle.table.specs.Step.{complete, stepOf}
+use Rattle.table.specs.Step.{stepOf}
 use Rattle.table.proofs.Reaching.{still-reached}
+use Rattle.table.proofs.Requests.{bare-step}
 use Rattle.table.proofs.Soundness.{sound}
 use borrow.Author.Needs.{needs}
 use Rattle.table.proofs.Station.step.Statement.{statement}
@@ -22,10 +17,6 @@ use Rattle.table.proofs.Station.step.Tie as tie
 -- the answer has a station that a fresh one reaches
 reaching : (c : tie.Start) {a : Answer} → a ≡ stepOf (c .args .self) (c .args .e) [] 0 → (a ≡ stepOf (c .args .self) (c .args .e) [] 0) × Reached (a .station)
 reaching c {a} same = (same, still-reached (c .pre) (c .args .e) (search needs) [] 0 a same)
-
--- without bytes after it no request is complete
-lacking : (e : Record) → complete e [] 0 ≡ false
-lacking e = rw (take-nil (e .number * 32)) (and-false (leb (e .number * 32) 0))
 
 sort-of-requires : tie.Need-sort-of-requires
 sort-of-requires c κs = search needs
@@ -71,14 +62,23 @@ quiet-requires c κs = search needs
 
 returns-5 : tie.Need-returns-5
 returns-5 c =
-    let start = c .before .before .before .before .before .before .before in
-    let sort = c .before .before .before .before .before .before .sort-of .result in
+    let sort-of = c .before .before .before .before .before .before .sort-of in
+    reaching (c .before .before .before .before .before .before .before) (rw (← sort-of .ensures, c .before .if5 .taken, c .quiet .ensures))
+
+flaw-in-requires : tie.Need-flaw-in-requires
+flaw-in-requires c κs = search needs
+
+refusal-requires : tie.Need-refusal-requires
+refusal-requires c κs = search needs
+
+returns-6 : tie.Need-returns-6
+returns-6 c =
+    let start = c .before .before .before .before .before .before .before .before in
+    let sort-of = c .before .before .before .before .before .before .before .sort-of in
+    let sort = sort-of .result in
     reaching start
-    (rw (← c .before .before .before .before .before .before .sort-of .ensures, ne-eqb sort oneRecord (c .before .before .before .before .before .if1 .left), ne-eqb sort soonestDue (c .before .before .before .before .if2 .left), ne-eqb sort newRecord (c .before .before .before .if3 .left), ne-eqb sort allOfNeighbour (c .before .before .if4 .left))
-    (⊎-elim
-    (λ t. rw (t .0 .taken, c .quiet .ensures, t .1))
-    (λ t. rw (ne-eqb sort noChange (t .0 .left), c .quiet .ensures, t .1, lacking (start .args .e)) (sym (on-either (eqb sort aRequest) _)))
-    (c .before .if5 .came)))
+    (bare-step (start .args .self) (start .args .e) sort _ (sort-of .ensures) (ne-eqb sort oneRecord (c .before .before .before .before .before .before .if1 .left)) (ne-eqb sort soonestDue (c .before .before .before .before .before .if2 .left)) (ne-eqb sort newRecord (c .before .before .before .before .if3 .left)) (ne-eqb sort allOfNeighbour (c .before .before .before .if4 .left)) (ne-eqb sort noChange (c .before .before .if5 .left))
+    (c .refusal .ensures ∙ ap refusal (c .before .flaw-in .ensures)))
 
 pub step-spec : {M : Type 1} → statement M
 step-spec =
@@ -94,4 +94,7 @@ step-spec =
     reset-by-requires
     returns-4
     quiet-requires
-    returns-5)
+    returns-5
+    flaw-in-requires
+    refusal-requires
+    returns-6)
