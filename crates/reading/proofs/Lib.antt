@@ -1,0 +1,10 @@
+pub mod Beginnings
+pub mod Deciding
+pub mod Examples
+pub mod Once
+pub mod Order
+pub mod RoundTrip
+pub mod Same
+pub mod Told
+pub mod Values
+pub mod Walk

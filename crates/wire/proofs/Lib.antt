@@ -1,0 +1,4 @@
+pub mod Examples
+pub mod Once
+pub mod Reasons
+pub mod Tables
