@@ -1,24 +1,19 @@
 -- Two results that satisfy a contract are equal: what each public entry gives is settled by its arguments.
 use Prim.Native.Nat.{ℕ}
 use mathlib.Core.Path.{_≡_, sym, _∙_}
-use mathlib.Core.Bool.{Bool}
 use mathlib.Core.List.{List}
 use lib.ListN.{length}
 use Rattle.records.specs.declared.Record.{Record}
 use Rattle.bearers.specs.declared.Flaw.{Flaw}
 use Rattle.bearers.specs.declared.Judgement.{Judgement}
 use Rattle.bearers.specs.declared.Parsed.{Parsed}
-use Rattle.bearers.specs.Admission.{judgeable, judgementOf, verdictsIn, allFive}
+use Rattle.bearers.specs.Admission.{judgementOf, verdictsIn, allFive}
 use Rattle.bearers.specs.Bearer.{parsed}
 use Rattle.bearers.specs.Flaws.{flawOf}
 
 -- Of the same record there is one bearer.
 pub of-once : (r : Record) (a b : Parsed) → a ≡ parsed r → b ≡ parsed r → a ≡ b
 of-once r a b p q = p ∙ sym q
-
--- Of the same bytes and room there is one answer whether they can be judged.
-pub can-judge-once : (bytes : List ℕ) (room : ℕ) (a b : Bool) → a ≡ judgeable bytes room → b ≡ judgeable bytes room → a ≡ b
-can-judge-once bytes room a b p q = p ∙ sym q
 
 -- Of the same bytes and room there is one flaw.
 pub flaw-once : (bytes : List ℕ) (room : ℕ) (a b : Flaw) → a ≡ flawOf bytes room → b ≡ flawOf bytes room → a ≡ b

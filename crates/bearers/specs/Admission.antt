@@ -94,7 +94,7 @@ judgeable bytes room = countable (length bytes) room && allBearers (recordsIn (l
 abbrev pub judgementOf : List ℕ → ℕ → ℕ → Judgement
 judgementOf bytes free room = cond (judgeable bytes room) (Given (admissionOf release8 free (bearersIn (length bytes / 32) bytes))) (Flawed (flawOf bytes room))
 
--- its number among the replies, and the count with it: "no bearer admitted", 5, else done, 0; "malformed", 1
+-- its number among the replies, and the count with it: "no bearer admitted", 5, else done, 0; or what is wrong with the bearers
 abbrev pub replyOf : Judgement → ℕ
 replyOf (Given a) = cond (eqb (a .admitted) 0) 5 0
 replyOf (Flawed f) = f .reply

@@ -1,4 +1,4 @@
--- The limit at its edge: while B's acknowledge is under way A may issue 1,999 own IDs, and take it then; 2,000 it may not.
+-- The limit at its edge: of 1,999 own IDs that A issues while B's acknowledge is under way it may take that then; of 2,000 it may not.
 use Prim.Native.Nat.{ℕ, _+_, _≤_, _<_}
 use mathlib.Core.Path.{_≡_, refl}
 use mathlib.Core.Bool.{true}

@@ -59,9 +59,6 @@ piece-whole bytes r e = let was = was-whole (roomAt bytes 0) (recordAt bytes 0) 
 pub piece-short : (bytes : List ℕ) → readAt bytes 0 ≡ Nothing → pieceOf bytes ≡ record { head = zeros; size = length bytes; whole = false }
 piece-short bytes e = rw (was-short (roomAt bytes 0) (recordAt bytes 0) e)
 
--- Either way the event's record is what was read, or one of zeros.
+-- A record that was read is the event's, whether it takes bearers or not.
 pub head-whole : (bytes : List ℕ) (r : Record) → readAt bytes 0 ≡ Whole r → pieceOf bytes .head ≡ r
 head-whole bytes r e = rw (piece-whole bytes r e) (by-cases (takesBearers r) (λ takes. rw takes) (λ single. rw single))
-
-pub head-short : (bytes : List ℕ) → readAt bytes 0 ≡ Nothing → pieceOf bytes .head ≡ zeros
-head-short bytes e = rw (piece-short bytes e)

@@ -177,7 +177,7 @@ isTimer t = leb 1 t && leb t 600000
 abbrev pub settled : Settings → Bool
 settled x = leb (x .capacity) 1000000000 && isTimer (x .prep) && isTimer (x .overall) && isTimer (x .guard)
 
--- "16 setting out of range": a fresh station of capacity 0 with all three timers 1 ms."
+-- "16 setting out of range", and then "a fresh station of capacity 0 with all three timers 1 ms"
 abbrev pub least : Settings
 least = record { capacity = 0; prep = 1; overall = 1; guard = 1 }
 
