@@ -1,4 +1,6 @@
 // What a station answers to an event: a reply, an ending, a message to send; and what is wrong where the event is malformed.
+#![tactic(auto)]
+
 ghost use Rattle.std.specs.Prelude.{◌≡◌};
 ghost use Rattle.answers.specs.Answers.{refusal as refusal_of, quiet as quiet_of, said as said_of, missing as missing_of, flaw_in};
 
@@ -9,7 +11,7 @@ use records::Record;
 
 // What a step answers: the message is all zeros if none is to be sent. With a reply for what is malformed come the first byte of the field that
 // is wrong and the place of the bearer, 0 for the event itself.
-#[derive(Drop)]
+#[derive(Clone, Copy)]
 pub struct Outcome {
     pub reply: u8,
     pub ending: u8,

@@ -1,4 +1,6 @@
 // What is written into a lent buffer: decimal numbers, and what is left of a block of a stream.
+#![tactic(auto)]
+
 pub mod digits;
 
 ghost use Rattle.std.specs.Prelude.{◌≡◌, ◌+◌, min, leb};

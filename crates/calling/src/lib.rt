@@ -1,4 +1,6 @@
 // How a crate calls the table. Nothing is checked beforehand and nothing is proved: each answer promises what the next call asks.
+#![tactic(auto)]
+
 use answers::Outcome;
 use records::Record;
 use table::{Settings, Station};

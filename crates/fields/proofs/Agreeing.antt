@@ -1,5 +1,5 @@
 -- The limits of the table say what document 01's uses and ranges say: field by field, by a test of the two tables.
-use Prim.Native.Nat.{ℕ, ◌≤◌, ◌<◌}
+use Prim.Native.Nat.{ℕ}
 use mathlib.Core.Path.{◌≡◌, refl, ◌∙◌, sym}
 use mathlib.Core.Bool.{Bool, true, false, cond, not, ◌&&◌, ◌||◌, and_assoc, and-true, and_comm, or-false, or_comm}
 use mathlib.Core.List.{List, [], ◌∷◌}
@@ -8,7 +8,7 @@ use borrow.Author.Tests.{eqb-true, eqb-false, le-leb, lt-leb, ltb-true, ltb-fals
 use native.Mathlib.Omega.{arith}
 use lib.Dec.{leb, ltb, eqb}
 use lib.ListN.{get_or, replicate, get_or-eq_default}
-use Rattle.laws.proofs.Tests.{by_cases, on_either, both_true, either_true, every, every_at, below, below_at}
+use Rattle.laws.proofs.Tests.{by_cases, on_either, both_true, either_true, every, every_at, below_at}
 use Rattle.records.specs.declared.Record.{Record}
 use Rattle.fields.specs.Fields.{kinds, row_of, limit_of, sort_of, no_event, mosts, fits, all_fit, values_of, is_bearer, sort_of_event}
 use Rattle.fields.specs.Malformed.{uses, used_by, in_range, is_absent, is_counted, well_formed, bearer_formed}

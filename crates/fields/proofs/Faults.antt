@@ -3,14 +3,14 @@ use Prim.Native.Nat.{ℕ, zero, suc, ◌+◌, ◌≤◌, ◌<◌}
 use mathlib.Core.Path.{◌≡◌, refl, ◌∙◌, sym, ap, ap₂}
 use mathlib.Core.Bool.{Bool, true, false, not, ◌&&◌, and-true, and-false, not-not, true≢false}
 use mathlib.Core.List.{List, [], ◌∷◌}
-use borrow.Author.Tests.{eq-eqb, ne_eqb, eqb-true, eqb-false, ltb-true, ltb-false, not-true}
+use borrow.Author.Tests.{eq-eqb, ne_eqb, eqb-true, eqb-false, ltb-true, ltb-false}
 use native.Mathlib.Omega.{arith}
 use store.Seg.{eqb_same}
-use lib.Dec.{leb, ltb, eqb}
+use lib.Dec.{ltb, eqb}
 use lib.ListN.{length, get_or, drop}
-use Rattle.laws.proofs.Tests.{by_cases, both_true, clash}
+use Rattle.laws.proofs.Tests.{by_cases, both_true}
 use Rattle.records.specs.declared.Record.{Record}
-use Rattle.fields.specs.Fields.{limit_of, sort_of, no_event, fits, all_fit, values_of, offsets, is_out, is_stray, first_from, no_fault, fault_in, fault_of, is_counted, well_formed}
+use Rattle.fields.specs.Fields.{limit_of, sort_of, no_event, fits, all_fit, values_of, offsets, is_out, is_stray, first_from, fault_in, fault_of, is_counted, well_formed}
 use Rattle.fields.proofs.Agreeing.{only_zero, event_formed, no_event_malformed}
 use Rattle.fields.proofs.Searching.{found_here, found_later, found_nowhere}
 

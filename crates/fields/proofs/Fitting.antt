@@ -8,7 +8,7 @@ use native.Mathlib.Omega.{arith}
 use lib.Dec.{leb, ltb, eqb}
 use lib.ListN.{length, get_or, take, drop, replicate}
 use Rattle.records.specs.declared.Record.{Record}
-use Rattle.laws.proofs.Tests.{both_true, every, every_at, below, below_at}
+use Rattle.laws.proofs.Tests.{both_true, every_at, below, below_at}
 use Rattle.fields.specs.Fields.{kinds, row_of, limit_of, mosts, id_or_absent, some_set, fits, all_fit, values_of, is_plain, Plain}
 
 -- Every row is so.

@@ -1,4 +1,6 @@
 // What sort of event a kind is, which fields it uses and within what limits, and what is wrong with a record.
+#![tactic(auto)]
+
 ghost use Rattle.std.specs.Prelude.{◌≡◌, ◌<◌, leb, get_or, take, drop};
 ghost use Rattle.fields.specs.Fields.{row_of, fits, all_fit, values_of, is_out, is_stray, first_from, fault_in, fault_of, fault_of_bearer, is_bearer, is_counted, sort_of_event, Plain};
 
@@ -21,7 +23,7 @@ pub const REQUEST: u8 = 5;
 pub const NO_CHANGE: u8 = 6;
 
 // What is wrong with a record: the reply, and the first byte of the lowest field that offends; 0 and 0 if nothing is.
-#[derive(Drop)]
+#[derive(Clone, Copy)]
 pub struct Fault {
     pub reply: u8,
     pub offset: u8,

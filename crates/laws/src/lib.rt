@@ -1,1 +1,2 @@
 // No code: facts about tests, lists and numbers that the proofs of the other crates share.
+#![tactic(auto)]

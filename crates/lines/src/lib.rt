@@ -1,4 +1,6 @@
 // Events in, lines out: how the bytes of a stream become the lines of the station program.
+#![tactic(auto)]
+
 ghost use Rattle.std.specs.Prelude.{◌≡◌, ◌+◌, ◌*◌, ◌≤◌, length};
 ghost use Rattle.std.proofs.lemmas.List.Edits.{sets};
 ghost use Rattle.buffers.specs.Buffers.{Writes};
@@ -18,14 +20,14 @@ use table::{Answer, Settings, Station};
 pub const LONGEST: usize = 231;
 
 // A station at work on a stream, and the place of the next event, from 1.
-#[derive(Drop)]
+#[derive(Clone, Copy)]
 pub struct Run {
     pub station: Station,
     pub place: u64,
 }
 
 // How far a run came in a block: the bytes taken of it, and the bytes of lines written.
-#[derive(Drop)]
+#[derive(Clone, Copy)]
 pub struct Progress {
     pub run: Run,
     pub taken: usize,

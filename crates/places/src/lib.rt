@@ -1,4 +1,6 @@
 // Where a record stands in the table, which place is free, and which own ID comes next.
+#![tactic(auto)]
+
 ghost use Rattle.std.specs.Prelude.{◌≡◌, ◌<◌, ◌&&◌, ◌||◌, get_or};
 ghost use Rattle.handover.specs.Events.{about, due_by, sooner};
 ghost use Rattle.handover.specs.Numbers.{is_free, own_is, any_of, next_after, issue_from};
@@ -10,7 +12,7 @@ use handover::numbers::{own, own_is};
 use records::Record;
 
 // A place of the table, if there is one.
-#[derive(Drop)]
+#[derive(Clone, Copy)]
 pub enum Found {
     At(usize),
     Nothing,

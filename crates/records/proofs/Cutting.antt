@@ -53,11 +53,11 @@ together bytes = together_in (length bytes) bytes (omega arith)
 -- each is cut from bytes that are left, so that it has one
 some_in : (steps : ℕ) (bytes event : List ℕ) → Memᴰ event (events_in steps bytes) → 0 < length event
 unfolding events_in
-some_in zero bytes event m = absurd (Memᴰ.not_nil m)
+some_in zero bytes event m = absurd (Memᴰ.not-nil m)
 some_in (suc steps) bytes event m =
     let size = (piece_of bytes).size in
     by_cases (leb (length bytes) 0)
-    (λ none. absurd (Memᴰ.not_nil (rw none at m)))
+    (λ none. absurd (Memᴰ.not-nil (rw none at m)))
     (λ some.
     let here = (onward bytes).1 (leb-false (length bytes) 0 some) in
     ⊎_elim (λ e. omega (arith, rw length-take at (ap length e), leb-false (length bytes) 0 some)) (some_in steps (drop size bytes) event) (Memᴰ.cases_cons (rw some at m)))

@@ -1,5 +1,7 @@
 // The 32-byte record in which events and messages come: its fields, read and written at a place of lent bytes, and
 // how a stream of records is cut into events.
+#![tactic(auto)]
+
 pub mod stream;
 
 ghost use Rattle.std.specs.Prelude.{◌≡◌, ◌+◌, ◌*◌, ◌≤◌, ◌<◌, ◌^◌, length, leb};
@@ -9,15 +11,15 @@ ghost use Rattle.records.specs.Record.{field_at, record_of, bytes_of, zeros, rea
 pub const SIZE: usize = 32;
 
 // A handover's number at its source.
-#[derive(Drop)]
+#[derive(Clone, Copy)]
 pub struct OldId(pub u16);
 
 // A handover's number at its target.
-#[derive(Drop)]
+#[derive(Clone, Copy)]
 pub struct NewId(pub u16);
 
 // All fields of a record, those that its kind does not use among them.
-#[derive(Drop)]
+#[derive(Clone, Copy)]
 pub struct Record {
     pub kind: u8,
     pub neighbour: u8,
@@ -37,7 +39,7 @@ pub struct Record {
 }
 
 // What stands at a place: a record, or fewer bytes than one has.
-#[derive(Drop)]
+#[derive(Clone, Copy)]
 pub enum Read {
     Whole(Record),
     Nothing,
@@ -84,7 +86,7 @@ impl Record {
     {
         if has_room(buffer.len(), at) {
             let out = bytes_of(self);
-            bytes::copy(&out, &mut buffer[at..at + SIZE]);
+            buffer[at..at + SIZE].copy_from_slice(&out);
             true
         } else {
             false

@@ -5,7 +5,7 @@ ghost use Rattle.records.specs.Stream.{takes_bearers, bearer_first, bearers_in, 
 use crate::{Read, Record, SIZE};
 
 // The event at the front of some bytes.
-#[derive(Drop)]
+#[derive(Clone, Copy)]
 pub struct Piece {
     // its record; one of zeros, which is malformed, where fewer bytes than a record has are left
     pub head: Record,

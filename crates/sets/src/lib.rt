@@ -1,4 +1,6 @@
 // A set of E-RAB IDs, 0 to 15, as a 16-bit number: bit k is set where ID k is in the set.
+#![tactic(auto)]
+
 ghost use Rattle.std.specs.Prelude.{◌≡◌};
 ghost use Rattle.sets.specs.Sets.{member, add, union, disjoint, within};
 

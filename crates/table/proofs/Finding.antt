@@ -1,6 +1,6 @@
 -- What is found in a table, and what stands at each place once one record is replaced.
 use Prim.Native.Nat.{ℕ, ◌+◌, ◌<◌}
-use mathlib.Core.Path.{◌≡◌, refl, sym}
+use mathlib.Core.Path.{◌≡◌, sym}
 use mathlib.Core.Bool.{Bool, true, false, ◌&&◌, ◌||◌}
 use mathlib.Core.List.{List, [], ◌∷◌}
 use borrow.Author.Tests.{eqb-true, eqb-false}
@@ -12,8 +12,7 @@ use Rattle.laws.proofs.Tests.{by_cases}
 use Rattle.records.specs.declared.Record.{Record}
 use Rattle.table.specs.declared.Best.{Best}
 use Rattle.handover.specs.declared.Entry.{Entry}
-use Rattle.places.specs.declared.Found.{Found}
-use Rattle.places.specs.declared.Found.TheVariants.{At, Nothing}
+use Rattle.places.specs.declared.Found.TheVariants.{At}
 use Rattle.table.specs.declared.Station.{Station}
 use Rattle.handover.specs.Events.{key, due_by, sooner}
 use Rattle.handover.specs.Numbers.{is_free, blank}

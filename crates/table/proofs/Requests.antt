@@ -14,7 +14,7 @@ use Rattle.answers.proofs.Flaws.{bearers_missing}
 use Rattle.fields.proofs.Sorts.{request_kind}
 use Rattle.fields.specs.Fields.{one_record, all_of_neighbour, soonest_due, new_record, a_request, no_change, no_event, sort_of, sort_of_event, well_formed}
 use Rattle.answers.specs.declared.Outcome.{Outcome}
-use Rattle.answers.specs.Answers.{refusal, missing, flaw_in}
+use Rattle.answers.specs.Answers.{refusal, flaw_in}
 use Rattle.table.specs.declared.Answer.{Answer}
 use Rattle.table.specs.declared.Station.{Station}
 use Rattle.table.specs.Step.{malformed, taken, complete, flaw_at, request_of, by_sort, step_of, verdicts_of}

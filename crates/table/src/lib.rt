@@ -1,5 +1,7 @@
 // The handover table of one station: it takes decoded messages, local decisions and clock ticks, and gives the next table, a
 // reply and at most one message to send.
+#![tactic(auto)]
+
 ghost use Rattle.std.specs.Prelude.{◌≡◌, ◌-◌, ◌/◌, ◌≤◌, ◌<◌, cond, ◌&&◌, ◌||◌, [], length, get_or};
 ghost use Rattle.bearers.specs.Admission.{judgeable, all_five};
 ghost use Rattle.bearers.specs.Flaws.{flaw_of};
@@ -23,7 +25,7 @@ use places::{Found, find, is_sooner, issue, vacant};
 use records::{NewId, OldId, Record, SIZE};
 
 // The capacity in units, and TRELOCprep, TX2RELOCoverall and the guard in ms.
-#[derive(Drop)]
+#[derive(Clone, Copy)]
 pub struct Settings {
     pub capacity: u32,
     pub prep: u32,
@@ -31,7 +33,7 @@ pub struct Settings {
     pub guard: u32,
 }
 
-#[derive(Drop)]
+#[derive(Clone, Copy)]
 pub struct Station {
     entries: [Entry; 64],
     clock: u64,
@@ -40,21 +42,21 @@ pub struct Station {
     last: u16,
 }
 
-#[derive(Drop)]
+#[derive(Clone, Copy)]
 pub struct Answer {
     pub outcome: Outcome,
     pub station: Station,
 }
 
 // A station at its birth: reply 16 if a setting was out of range.
-#[derive(Drop)]
+#[derive(Clone, Copy)]
 pub struct Birth {
     pub reply: u8,
     pub station: Station,
 }
 
 // The soonest due record so far, and its place; none if it is free.
-#[derive(Drop)]
+#[derive(Clone, Copy)]
 pub struct Best {
     place: usize,
     entry: Entry,

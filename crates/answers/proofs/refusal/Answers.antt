@@ -1,0 +1,6 @@
+-- Field by field.
+
+use Rattle.answers.proofs.refusal.Goals as goal
+
+pub returns : goal.returns
+returns c = rw c.silence.ensures

@@ -1,0 +1,13 @@
+-- The numbers that are left, written after what is there, give the whole.
+use Rattle.std.proofs.Common.{◌≡◌, ◌+◌, ◌*◌, ◌≤◌, length, drop}
+use Rattle.buffers.specs.Digits.{cell_room, spaced}
+use Rattle.buffers.proofs.Writing.{Completes}
+use Rattle.lines.proofs.cells.Given as goal
+
+-- so far: each number took at most its room
+abbrev pub invariant-loop-i : goal.invariant-loop-i
+invariant-loop-i l =
+    (l.i ≤ 10)
+    × (length l.out ≡ length l.initial.out)
+    × (l.place ≤ l.at + cell_room * l.i)
+    × Completes l.initial.out l.out l.at (spaced l.numbers) l.place (spaced (drop l.i l.numbers))

@@ -1,0 +1,20 @@
+-- An ID below 16 is a place in a 16-bit number, so its bit is not shifted out.
+use borrow.Author.Tests.{lt-ltb, le-ltb}
+use Prim.Native.Nat.{◌*◌, ◌%◌, ◌^◌, ◌<◌}
+use mathlib.Core.Path.{◌≡◌}
+use native.Mathlib.Omega.{arith}
+use lib.Pow.{pow-lt}
+use Rattle.sets.specs.Sets.{add}
+use Rattle.sets.proofs.add.Goals as goal
+
+pub returns-then-id-lt16 : goal.returns-then-id-lt16
+unfolding add
+returns-then-id-lt16 c =
+    let id = c.args.id in
+    let fits : 2 ^ id < 2 ^ 16 = pow-lt {i = id} {j = 16} c.if-id-lt16.true in
+    let whole : 1 * 2 ^ id % 65536 ≡ 2 ^ id = omega arith in
+    rw (whole, lt-ltb id 16 c.if-id-lt16.true)
+
+pub returns-else-id-lt16 : goal.returns-else-id-lt16
+unfolding add
+returns-else-id-lt16 c = rw (le-ltb c.args.id 16 c.if-id-lt16.false)
