@@ -1,4 +1,6 @@
 // Lines of words in, records out: one byte of the text after the other.
+#![tactic(auto)]
+
 ghost use Rattle.std.specs.Prelude.{◌≡◌, ◌+◌, ◌^◌, ◌≤◌, ◌<◌, set};
 ghost use Rattle.words.specs.Words.{last_kind, last_field};
 ghost use Rattle.composing.specs.Composed.{is_gap, takes_digit, grown, longer, empty_word, pushed, added, next_field, wrong, too_long, put, begun, chosen, raw_begun, nibble, hex_value, appended, takes_bearer, may_begin, with_word, is_pair, commented, finished, made, stage, hex, understood, settle, lacks_count, counted, close, typed, step, new_draft, read_from, taken_from};
@@ -42,7 +44,7 @@ const FIELDS: [usize; 35] = [
 ];
 
 // A word as far as it was read: its first 16 bytes, how many it has (17 where there are more), and the number that it is.
-#[derive(Drop)]
+#[derive(Clone, Copy)]
 pub struct Word {
     pub text: [u8; 16],
     pub size: usize,
@@ -52,7 +54,7 @@ pub struct Word {
 
 // A line as far as it was read: the record that is being filled, the field that takes the next number (`NO_FIELD` for none), and how
 // many bytes of records stand in the buffer.
-#[derive(Drop)]
+#[derive(Clone, Copy)]
 pub struct Draft {
     pub values: [u64; 15],
     pub field: usize,
@@ -64,7 +66,7 @@ pub struct Draft {
 }
 
 // How far the reading of some text came.
-#[derive(Drop)]
+#[derive(Clone, Copy)]
 pub struct Progress {
     pub draft: Draft,
     pub taken: usize,

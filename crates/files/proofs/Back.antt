@@ -20,7 +20,7 @@ use Rattle.showing.specs.Shown.{end_text, joins, new_sheet, sheet_after, has_wor
 use Rattle.laws.proofs.Tests.{between}
 use Rattle.composing.proofs.Machine.{step_gap}
 use Rattle.files.specs.Files.{shown_from, shown_file, composed_from, composed_in}
-use Rattle.files.proofs.Leading.{at, resting, leads_on, leads_to, Reads}
+use Rattle.files.proofs.Leading.{resting, leads_on, leads_to, Reads}
 use Rattle.files.proofs.Fields.{record_read}
 use Rattle.files.proofs.Filling.{Holds, holds_none, holds_length, holds_record, holds_bytes}
 use Rattle.files.proofs.Raw.{raw_read}

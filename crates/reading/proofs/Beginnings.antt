@@ -1,18 +1,18 @@
 -- A message cut short, and one that goes on.
-use Prim.Native.Nat.{ℕ, zero, suc, ◌+◌, ◌-◌, ◌≤◌, ◌<◌}
+use Prim.Native.Nat.{ℕ, zero, suc, ◌≤◌, ◌<◌}
 use mathlib.Core.Path.{◌≡◌, refl, sym, ap, ◌∙◌}
-use mathlib.Core.Bool.{Bool, true, false, cond, not, ◌&&◌, ◌||◌, false≢true}
-use mathlib.Core.List.{List, [], ◌∷◌, ◌++◌}
+use mathlib.Core.Bool.{true, false, ◌||◌, false≢true}
+use mathlib.Core.List.{List, ◌∷◌, ◌++◌}
 use mathlib.Core.Logic.{◌⊎◌, inl, inr}
 use native.Mathlib.Omega.{arith}
-use borrow.Author.Tests.{leb-true, leb-false, ltb-true, ltb-false, lt-ltb, le-ltb, eq-eqb, ne_eqb}
+use borrow.Author.Tests.{leb-true, leb-false, ltb-true, ltb-false, lt-ltb, le-ltb, eq-eqb}
 use lib.Dec.{leb, ltb, eqb}
 use lib.ListN.{length, take, get_or, length-append, get_or-append}
 use lib.Seq.{get_or-take, length-take-le, take_all}
-use Rattle.laws.proofs.Tests.{by_cases, on_true}
-use Rattle.wire.specs.Parts.{none, ies_of, list_end, is_complete}
-use Rattle.wire.specs.Rules.{allows, refusal_by}
-use Rattle.reading.specs.Reading.{shape_of, count_of, layout_of, rule_in, stands_in, passed, end_in, judged_in, judged_of}
+use Rattle.laws.proofs.Tests.{by_cases}
+use Rattle.wire.specs.Parts.{none, ies_of, list_end}
+use Rattle.wire.specs.Rules.{allows}
+use Rattle.reading.specs.Reading.{shape_of, count_of, layout_of, rule_in, stands_in, passed, end_in, judged_of}
 use Rattle.reading.specs.declared.Layout.{Layout}
 use Rattle.wire.specs.declared.Refusal.{Refusal}
 use Rattle.reading.proofs.Deciding.{each_same}

@@ -1,22 +1,21 @@
 -- "The earliest byte decides": nothing behind it matters, and nothing before it was wrong.
-use Prim.Native.Nat.{ℕ, zero, suc, ◌+◌, ◌-◌, ◌≤◌, ◌<◌, min}
+use Prim.Native.Nat.{ℕ, ◌+◌, ◌≤◌, ◌<◌, min}
 use mathlib.Core.Path.{◌≡◌, refl, sym, ap, ◌∙◌}
-use mathlib.Core.Bool.{Bool, true, false, cond, not, ◌&&◌, ◌||◌, false≢true}
-use mathlib.Core.List.{List, [], ◌∷◌, ◌++◌}
+use mathlib.Core.Bool.{Bool, true, false, cond, not, ◌&&◌, ◌||◌}
+use mathlib.Core.List.{List}
 use native.Mathlib.Omega.{arith}
-use borrow.Author.Tests.{ltb-true, ltb-false, lt-ltb, le-ltb, eqb-true, ne_eqb}
+use borrow.Author.Tests.{ltb-true, lt-ltb, eqb-true, ne_eqb}
 use lib.Dec.{leb, ltb, eqb}
 use lib.ListN.{length, take, get_or, length-take}
-use lib.Seq.{get_or-take, length-take-le}
-use Rattle.laws.proofs.Tests.{by_cases, both_true}
-use Rattle.wire.specs.Parts.{a_choice, id_end, none}
+use lib.Seq.{get_or-take}
+use Rattle.laws.proofs.Tests.{by_cases}
+use Rattle.wire.specs.Parts.{a_choice, id_end}
 use Rattle.wire.specs.Rules.{form_of, allows, reply_by, refusal_by}
-use Rattle.reading.specs.Reading.{layout_of, rule_in, stands_in, passed, end_in, judged_of, is_refused, read_of}
-use Rattle.reading.specs.declared.Layout.{Layout}
+use Rattle.reading.specs.Reading.{layout_of, rule_in, stands_in, passed, judged_of, is_refused, read_of}
 use Rattle.wire.specs.declared.Refusal.{Refusal}
-use Rattle.reading.proofs.Order.{passed_most, passed_each, passed_last, every_rule, reply_some, saying}
+use Rattle.reading.proofs.Order.{passed_each, passed_last, every_rule, reply_some, saying}
 use Rattle.reading.proofs.Same.{same_rule}
-use Rattle.reading.proofs.Walk.{passed_stop, judged_octet, judged_end}
+use Rattle.reading.proofs.Walk.{passed_stop, judged_octet}
 
 -- ---- the same octets up to a place
 

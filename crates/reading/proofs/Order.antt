@@ -1,17 +1,17 @@
 -- What a message that is not refused has.
 use Prim.Native.Nat.{ℕ, zero, suc, ◌+◌, ◌≤◌, ◌<◌}
-use mathlib.Core.Path.{◌≡◌, refl, sym, ap, ◌∙◌}
-use mathlib.Core.Bool.{Bool, true, false, cond, not, ◌&&◌, ◌||◌, false≢true, true≢false}
+use mathlib.Core.Path.{◌≡◌, refl, sym, ◌∙◌}
+use mathlib.Core.Bool.{Bool, true, false, cond, not, ◌&&◌, ◌||◌, false≢true}
 use mathlib.Core.List.{List, [], ◌∷◌}
 use native.Mathlib.Omega.{arith}
-use borrow.Author.Tests.{lt-leb, ltb-true, ltb-false, lt-ltb, le-ltb, eqb-true, eqb-false, eq-eqb, ne_eqb, not-true}
+use borrow.Author.Tests.{lt-leb, ltb-true, ltb-false, lt-ltb, le-ltb, eqb-true, eqb-false, not-true}
 use lib.Dec.{leb, ltb, eqb}
 use lib.ListN.{length, get_or}
 use store.Seg.{eqb_same}
 use Rattle.laws.proofs.Tests.{by_cases, both_true, neither, every, every_at}
 use Rattle.wire.specs.Parts.{a_choice, none, ies_of, row_of, list_end, is_complete}
 use Rattle.wire.specs.Rules.{form_of, allows, reply_by}
-use Rattle.reading.specs.Reading.{shape_of, count_of, layout_of, rule_in, passed, end_in, judged_in, judged_of}
+use Rattle.reading.specs.Reading.{shape_of, count_of, layout_of, rule_in, passed, judged_of}
 use Rattle.reading.specs.declared.Layout.{Layout}
 use Rattle.wire.proofs.Tables.{of_three}
 use Rattle.reading.proofs.Walk.{moved}

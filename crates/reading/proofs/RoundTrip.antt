@@ -4,21 +4,20 @@ use mathlib.Core.Path.{◌≡◌, refl, sym, ap, ◌∙◌}
 use mathlib.Core.Bool.{Bool, true, false, cond, not, ◌&&◌, ◌||◌}
 use mathlib.Core.List.{List, [], ◌∷◌}
 use native.Mathlib.Omega.{arith}
-use borrow.Author.Tests.{leb-true, ltb-true, lt-ltb, le-ltb, le-leb, eqb-true, eqb-false, eq-eqb, ne_eqb, not-true, not-false}
+use borrow.Author.Tests.{leb-true, ltb-true, lt-ltb, le-leb, eqb-true, eqb-false, eq-eqb, ne_eqb, not-true, not-false}
 use lib.Dec.{leb, ltb, eqb}
 use lib.ListN.{length, get_or}
 use Rattle.laws.proofs.Tests.{by_cases, both_true, on_true, on_false, clash, below, below_at}
 use Rattle.records.specs.declared.Record.{Record}
 use Rattle.wire.specs.Causes.{reason_of, no_cause, cause_of}
-use Rattle.wire.specs.Parts.{none, ies_of, row_of, list_end, kind_of, shape_for, message_octets, octets_of}
+use Rattle.wire.specs.Parts.{none, ies_of, row_of, list_end, message_octets, octets_of}
 use Rattle.wire.specs.Rules.{least_of, most_of, form_of, allows}
 use Rattle.reading.specs.Reading.{shape_of, count_of, layout_of, rule_in, end_in, judged_of, is_refused, number_at, record_in, record_of, read_of}
 use Rattle.wire.specs.declared.Refusal.{Refusal}
-use Rattle.reading.specs.declared.Reading.TheVariants.{Message, Refused}
+use Rattle.reading.specs.declared.Reading.TheVariants.{Message}
 use Rattle.reading.proofs.Beginnings.{all_passed}
 use Rattle.reading.proofs.Order.{InOrder, in_order, some_shape}
 use Rattle.wire.proofs.Reasons.{cause_back, reason_back, cause_byte, no_octet, no_reason}
-use Rattle.reading.proofs.Same.{seven}
 use Rattle.wire.proofs.Tables.{of_three, tabled}
 
 -- ---- a message in order, octet by octet

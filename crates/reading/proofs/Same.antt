@@ -1,12 +1,12 @@
 -- What may stand at a place depends on the octets up to it alone.
-use Prim.Native.Nat.{ℕ, zero, suc, ◌+◌, ◌*◌, ◌≤◌, ◌<◌}
+use Prim.Native.Nat.{ℕ, zero, suc, ◌+◌, ◌≤◌, ◌<◌}
 use mathlib.Core.Path.{◌≡◌, refl, sym, ap, ◌∙◌}
-use mathlib.Core.Bool.{Bool, true, false, cond, ◌&&◌}
-use mathlib.Core.List.{List, [], ◌∷◌}
+use mathlib.Core.Bool.{Bool, true, false, cond}
+use mathlib.Core.List.{List}
 use native.Mathlib.Omega.{arith}
 use borrow.Author.Tests.{leb-true, leb-false, lt-ltb, ne_eqb}
-use lib.Dec.{leb, ltb, eqb}
-use lib.ListN.{length, take, get_or}
+use lib.Dec.{leb, eqb}
+use lib.ListN.{get_or}
 use lib.Seq.{get_or-take}
 use Rattle.laws.proofs.Tests.{by_cases}
 use Rattle.wire.specs.Parts.{none, row_of, list_end, is_complete}

@@ -1,15 +1,14 @@
 -- A message that is told to be in order by its octets is.
-use Prim.Native.Nat.{ℕ, ◌+◌, ◌*◌, ◌/◌, ◌%◌, ◌≤◌, ◌<◌}
+use Prim.Native.Nat.{ℕ, ◌+◌, ◌≤◌, ◌<◌}
 use mathlib.Core.Path.{◌≡◌, refl, sym, ap, ◌∙◌}
-use mathlib.Core.Bool.{Bool, true, false, not, ◌&&◌, false≢true}
+use mathlib.Core.Bool.{true, not, ◌&&◌, false≢true}
 use mathlib.Core.List.{List, [], ◌∷◌}
 use native.Mathlib.Omega.{arith}
 use borrow.Author.Tests.{leb-true, eqb-true, eqb-false, not-true}
 use lib.Dec.{leb, eqb}
 use lib.ListN.{length, get_or}
 use Rattle.laws.proofs.Tests.{by_cases, both_true}
-use Rattle.records.specs.declared.Record.{Record}
-use Rattle.wire.specs.Causes.{reason_of, no_cause, cause_of}
+use Rattle.wire.specs.Causes.{reason_of}
 use Rattle.wire.specs.Parts.{message_octets}
 use Rattle.reading.specs.Reading.{judged_of, number_at, record_in}
 use Rattle.reading.specs.Whole.{begins, heads, is_release, is_cancel, is_short, is_whole}
@@ -17,7 +16,7 @@ use Rattle.wire.specs.declared.Refusal.{Refusal}
 use Rattle.reading.proofs.Beginnings.{all_passed}
 use Rattle.reading.proofs.Order.{in_order}
 use Rattle.wire.proofs.Reasons.{cause_back, reason_byte, no_octet}
-use Rattle.reading.proofs.RoundTrip.{Rest, Caused, spread, high_back, low_back, release_read, cancel_read, short_read}
+use Rattle.reading.proofs.RoundTrip.{Caused, spread, high_back, low_back, release_read, cancel_read, short_read}
 use Rattle.wire.proofs.Tables.{tabled}
 
 -- the octets that the tests name

@@ -1,5 +1,5 @@
 -- What is read of a message, or why it is refused: "the earliest byte decides, then the lower number".
-use Rattle.std.specs.Prelude.{ℕ, suc, ◌+◌, ◌*◌, ◌-◌, Bool, true, false, cond, not, ◌&&◌, ◌||◌, List, [], ◌∷◌, leb, ltb, eqb, length, take, drop, get_or}
+use Rattle.std.specs.Prelude.{ℕ, suc, ◌+◌, ◌*◌, Bool, cond, not, ◌&&◌, ◌||◌, List, [], ◌∷◌, leb, ltb, eqb, length, take, drop, get_or}
 use Rattle.records.specs.declared.Record.{Record}
 use Rattle.wire.specs.Rules.{allows, refusal_by}
 use Rattle.wire.specs.Causes.{reason_of}

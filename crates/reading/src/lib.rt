@@ -1,4 +1,6 @@
 // UE CONTEXT RELEASE and HANDOVER CANCEL read off the wire: the record, or why it is refused and at which byte.
+#![tactic(auto)]
+
 mod whole;
 
 ghost use Rattle.std.specs.Prelude.{◌≡◌, ◌≤◌, ◌<◌, get_or, length};
@@ -9,7 +11,7 @@ use records::{NewId, OldId, Record};
 use wire::{Refusal, causes, rules};
 
 // What is read: the record, or why there is none.
-#[derive(Drop)]
+#[derive(Clone, Copy)]
 pub enum Reading {
     Message(Record),
     Refused(Refusal),
@@ -17,7 +19,7 @@ pub enum Reading {
 
 // What a message says of itself: which it is, where its list of IEs ends by its count, where its value ends by its length, and what is said of
 // a byte after the list.
-#[derive(Drop)]
+#[derive(Clone, Copy)]
 pub struct Layout {
     pub shape: u8,
     pub list: usize,

@@ -1,4 +1,6 @@
 // Records in, lines of words out.
+#![tactic(auto)]
+
 ghost use Rattle.std.specs.Prelude.{◌≡◌, ◌+◌, ◌*◌, ◌≤◌, ◌<◌, length, take, drop};
 ghost use Rattle.std.proofs.lemmas.List.Edits.{sets};
 ghost use Rattle.buffers.specs.Buffers.{Writes};
@@ -23,7 +25,7 @@ pub const ROOM: usize = 4959;
 const LAST_ROOM: usize = 96;
 
 // Between two records: how many bearers the last request may still take, and whether a line is open.
-#[derive(Drop)]
+#[derive(Clone, Copy)]
 pub struct Sheet {
     pub owed: u32,
     pub begun: bool,
@@ -250,7 +252,7 @@ fn record_at(bytes: &[u8]) -> Record
 }
 
 // What showing took and wrote.
-#[derive(Drop)]
+#[derive(Clone, Copy)]
 pub struct Shown {
     pub sheet: Sheet,
     pub taken: usize,

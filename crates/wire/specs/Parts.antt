@@ -1,5 +1,5 @@
 -- UE CONTEXT RELEASE and HANDOVER CANCEL as lists of their parts, in aligned PER (TS 36.423 V8.4.0, clauses 9.1.1.5, 9.1.1.6 and 9.3).
-use Rattle.std.specs.Prelude.{ℕ, ◌+◌, ◌*◌, ◌/◌, ◌%◌, Bool, cond, List, [], ◌∷◌, ◌++◌, map, eqb, length, take, get_or}
+use Rattle.std.specs.Prelude.{ℕ, ◌+◌, ◌/◌, ◌%◌, Bool, cond, List, [], ◌∷◌, ◌++◌, map, eqb, length, take, get_or}
 use Rattle.records.specs.declared.Record.{Record}
 use Rattle.wire.specs.Causes.{cause_of}
 use Rattle.wire.specs.declared.Part.{Part}

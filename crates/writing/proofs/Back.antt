@@ -1,14 +1,14 @@
 -- What is written reads back, and what is read can be written.
-use Prim.Native.Nat.{ℕ, ◌+◌, ◌*◌, ◌≤◌, ◌<◌}
-use mathlib.Core.Path.{◌≡◌, refl, sym, ap, ◌∙◌}
+use Prim.Native.Nat.{ℕ, ◌≤◌, ◌<◌}
+use mathlib.Core.Path.{◌≡◌, sym, ap, ◌∙◌}
 use mathlib.Core.Bool.{Bool, true, false, cond, not, ◌||◌}
-use mathlib.Core.List.{List, [], ◌∷◌, ◌++◌}
-use mathlib.Core.Logic.{◌⊎◌, inl, inr, ⊎_elim}
+use mathlib.Core.List.{List, ◌∷◌, ◌++◌}
+use mathlib.Core.Logic.{⊎_elim}
 use native.Mathlib.Omega.{arith}
 use borrow.Author.Tests.{eqb-true, eqb-false, eq-eqb, ne_eqb, not-true}
 use lib.Dec.{eqb}
-use lib.ListN.{length, take}
-use Rattle.laws.proofs.Tests.{by_cases, either_true}
+use lib.ListN.{take}
+use Rattle.laws.proofs.Tests.{either_true}
 use Rattle.records.specs.declared.Record.{Record}
 use Rattle.fields.specs.Fields.{fault_of}
 use Rattle.wire.specs.Causes.{no_cause, cause_of}
@@ -18,7 +18,7 @@ use Rattle.reading.specs.declared.Reading.TheVariants.{Message}
 use Rattle.reading.proofs.Beginnings.{truncated, left_over}
 use Rattle.reading.proofs.Order.{in_order}
 use Rattle.reading.proofs.RoundTrip.{Caused, release_read, release_back, cancel_read, cancel_back, short_read, short_back, is_read_lem}
-use Rattle.writing.specs.Writing.{is_carried, has_cause, size_of, refusal_for}
+use Rattle.writing.specs.Writing.{size_of, refusal_for}
 use Rattle.writing.proofs.Formed.{release_neighbour, release_old, release_new, release_reason, release_rest, cancel_neighbour, cancel_old, cancel_new, cancel_reason, cancel_rest}
 use Rattle.writing.proofs.Refusing.{carried, faultless, caused}
 

@@ -1,14 +1,14 @@
 -- What a record of the two kinds has in which nothing is wrong.
 use Prim.Native.Nat.{ℕ, zero, suc, ◌+◌, ◌≤◌, ◌<◌}
 use mathlib.Core.Path.{◌≡◌, refl, sym, ap, ◌∙◌}
-use mathlib.Core.Bool.{Bool, true, false, cond, not, ◌&&◌, ◌||◌}
+use mathlib.Core.Bool.{true, false, cond}
 use mathlib.Core.List.{List, [], ◌∷◌}
 use mathlib.Core.Logic.{◌⊎◌, inl, inr, ⊎_elim}
 use native.Mathlib.Omega.{arith}
 use borrow.Author.Tests.{leb-true, ltb-true, eqb-true, eq-eqb}
 use lib.Dec.{leb, ltb, eqb}
 use lib.ListN.{length, get_or}
-use Rattle.laws.proofs.Tests.{by_cases, both_true, either_true, on_false}
+use Rattle.laws.proofs.Tests.{both_true, either_true, on_false}
 use Rattle.records.specs.declared.Record.{Record}
 use Rattle.fields.specs.declared.Fault.{Fault}
 use Rattle.fields.specs.Fields.{no_event, fits, limit_of, sort_of, values_of, fault_in, fault_of, all_fit}

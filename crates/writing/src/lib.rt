@@ -1,4 +1,6 @@
 // UE CONTEXT RELEASE and HANDOVER CANCEL in aligned PER: a record written as its message.
+#![tactic(auto)]
+
 ghost use Rattle.std.specs.Prelude.{◌≡◌, ◌++◌, ◌-◌, ◌≤◌, length, take, drop, replicate};
 ghost use Rattle.wire.specs.Parts.{message_octets, octets_of};
 ghost use Rattle.writing.specs.Writing.{is_carried, has_cause, size_of, padded, refusal_for, written_of, left_in};
@@ -9,7 +11,7 @@ use wire::Refusal;
 use wire::causes::{NO_CAUSE, cause_of};
 
 // What was written: a message of so many octets, or why there is none.
-#[derive(Drop)]
+#[derive(Clone, Copy)]
 pub enum Written {
     Message(usize),
     Refused(Refusal),

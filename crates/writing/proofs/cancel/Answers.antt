@@ -1,0 +1,6 @@
+-- Octet by octet.
+
+use Rattle.writing.proofs.cancel.Goals as goal
+
+pub returns : goal.returns
+returns c = rw c.cause_of.ensures
