@@ -161,7 +161,7 @@ module _ (peer : Side → ℕ) where
       none_due_at (ticks_on still A last_time (both_true (may_tick v A last_time) (is_none_due v A) parts.0).0) B parts.1 here
   each_none_due {v = v} still ((s, time) ∷ ts) t r =
       let parts = both_true (may_tick v s time) (may_end_after (ticked v s time) ts) t in
-      each_none_due (ticks_on still s time parts.0) ts parts.1 r
+      each_none_due {v = ticked v s time} (ticks_on still s time parts.0) ts parts.1 r
 
   abbrev pub may_settle : World → List (Side × ℕ) → Bool
   may_settle w ts = to_both (is_quiet w) && may_end_after w ts
@@ -184,7 +184,7 @@ module _ (peer : Side → ℕ) where
       tick_runs first B last_time (both_true (may_tick (ticked w A last_time) B last_time) (is_none_due (ticked w A last_time) B) parts.1).0
   ended_run {w} r ((s, time) ∷ ts) t =
       let parts = both_true (may_tick w s time) (may_end_after (ticked w s time) ts) t in
-      ended_run (tick_runs r s time parts.0) ts parts.1
+      ended_run {w = ticked w s time} (tick_runs r s time parts.0) ts parts.1
 
   pub settled_run : {w : World} → Run peer w → (ts : List (Side × ℕ)) → may_settle w ts ≡ true → Run peer (ended w ts)
   settled_run {w} r ts t = ended_run r ts (both_true (to_both (is_quiet w)) (may_end_after w ts) t).1

@@ -13,7 +13,7 @@ use Rattle.laws.proofs.Tests.{by_cases, both_true, clash, refuted}
 use Rattle.records.specs.declared.Record.{Record}
 use Rattle.promises.proofs.Interface.{to_means}
 use Rattle.table.specs.declared.Answer.{Answer}
-use Rattle.promises.specs.Views.{Prepared, Incoming, NotHeld, Held, held, some_held, sent, to}
+use Rattle.promises.specs.Views.{Prepared, Incoming, NotHeld, Held, some_held, sent, to}
 use Rattle.pair.specs.World.{Side, Numbers, Answered, Refused, Fixed, Envelope, took, tag_of, arrives_for, marked, is_message}
 use Rattle.pair.proofs.Posting.{posted_to, all_posted, pairs_posted}
 use Rattle.pair.proofs.Taking.{took_of, left, left_pairs, left_behind}

@@ -159,7 +159,7 @@ sound_taken first m = sound_step first m.event m.bytes m.room
 
 sound_after : {s : Station} → Sound s → (ms : List Input) → Sound (after s ms)
 sound_after first [] = first
-sound_after first (m ∷ ms) = sound_after (sound_taken first m) ms
+sound_after {s = s} first (m ∷ ms) = sound_after {s = (taken s m).station} (sound_taken first m) ms
 
 -- At stations that are alike for a neighbour, its own messages are answered the same whether others come between them or not.
 alone : (n : ℕ) (s t : Station) → Sound s → Sound t → Alike n s t → (ms : List Input) → are_messages ms ≡ true

@@ -1,7 +1,7 @@
 -- What is malformed, and nothing else, gets a reply of 10 to 15; it changes nothing and writes no verdict.
 use Prim.Native.Nat.{ℕ, ◌*◌, ◌/◌, ◌%◌, ◌≤◌}
 use mathlib.Core.Path.{◌≡◌, refl, sym, ap, ◌∙◌}
-use mathlib.Core.Bool.{true, not, ◌&&◌, and-true, and-false}
+use mathlib.Core.Bool.{true, not, and-true, and-false}
 use mathlib.Core.List.{List, [], ◌∷◌}
 use mathlib.Core.Logic.{⊎_elim}
 use borrow.Author.Tests.{eq-eqb, eqb-true, le-leb, leb-true, not-true}

@@ -13,7 +13,7 @@ use Rattle.sets.proofs.Membership.{set_of_fits}
 use Rattle.table.specs.declared.Answer.{Answer}
 use Rattle.handover.specs.declared.Entry.{Entry}
 use Rattle.table.specs.declared.Station.{Station}
-use Rattle.handover.specs.Events.{message, silence, last_word, decide}
+use Rattle.handover.specs.Events.{silence, last_word, decide}
 use Rattle.fields.specs.Fields.{well_formed}
 use Rattle.handover.specs.Numbers.{blank}
 use Rattle.table.specs.Reached.{Reached}
