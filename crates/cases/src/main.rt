@@ -8,21 +8,23 @@
 // A line has the name; the reply of a birth; each reply with how often it came in a row, for what is malformed with the offset and the
 // place of the bearer, as `11@26.1*2`; and what the last event gave: ending, count, the message's kind, neighbour, Old, New, sets and
 // reason, and as many places of the verdict buffer as the event has records, 9 where a place is as found.
-ghost use Rattle.std.specs.Prelude.{◌≡◌, length};
+#![tactic(auto)]
+
+ghost use Rattle.std.specs.Prelude.{◌≡◌, ◌≤◌, length};
 ghost use Rattle.table.specs.Reached.{Reached};
 ghost use Rattle.cases.specs.Scripts.{Sound};
 
 use answers::Outcome;
 use bearers::Flaw;
-use libc::{STDIN_FILENO, STDOUT_FILENO};
 use lines::answered;
 use records::stream::cut;
 use records::{Read, Record, SIZE};
+use std::io;
 use std::num::wrapping_add_u64;
 use table::{Settings, Station};
 
 // A case under way.
-#[derive(Drop)]
+#[derive(Clone, Copy)]
 struct Case {
     station: Station,
     room: u16,
@@ -37,72 +39,72 @@ struct Case {
 }
 
 // Writes a number after a text.
-fn field(before: &[u8], n: u64) {
-    io::write_all(STDOUT_FILENO, before);
-    io::print_decimal(STDOUT_FILENO, n);
+fn field(rt: &HostRuntime, before: &[u8], n: u64) {
+    let _ = rt.write_all(before);
+    let _ = rt.print(n);
 }
 
 // Writes which field was wrong, and of which bearer.
-fn write_field(last: Flaw) {
+fn write_field(rt: &HostRuntime, last: Flaw) {
     if 10 <= last.reply {
-        field(b"@", last.offset as u64);
+        field(rt, b"@", last.offset as u64);
     }
     if 0 < last.place {
-        field(b".", last.place as u64);
+        field(rt, b".", last.place as u64);
     }
 }
 
 // Writes a reply and how often it came in a row, if it did.
-fn write_row(last: Flaw, row: u64) {
+fn write_row(rt: &HostRuntime, last: Flaw, row: u64) {
     if 0 < row {
-        field(b" ", last.reply as u64);
-        write_field(last);
-        field(b"*", row);
+        field(rt, b" ", last.reply as u64);
+        write_field(rt, last);
+        field(rt, b"*", row);
     }
 }
 
 // How often the next reply came in a row; the row of another before it is written.
-fn counted(last: Flaw, row: u64, next: Flaw) -> u64 {
+fn counted(rt: &HostRuntime, last: Flaw, row: u64, next: Flaw) -> u64 {
     if (next.reply == last.reply) & (next.offset == last.offset) & (next.place == last.place) {
         return wrapping_add_u64(row, 1);
     }
-    write_row(last, row);
+    write_row(rt, last, row);
     1
 }
 
-fn write_verdicts(verdicts: &[u8]) {
+fn write_verdicts(rt: &HostRuntime, verdicts: &[u8]) {
     for i in 0..verdicts.len() {
-        field(b" ", verdicts[i] as u64);
+        field(rt, b" ", verdicts[i] as u64);
     }
 }
 
 // Writes what an event gave beside the reply, and ends the line.
-fn write_outcome(o: Outcome, verdicts: &[u8]) {
+fn write_outcome(rt: &HostRuntime, o: Outcome, verdicts: &[u8]) {
     let m = o.message;
     let old = m.old;
     let new = m.new;
-    field(b"; ending ", o.ending as u64);
-    field(b"; count ", o.count as u64);
-    field(b"; sent ", m.kind as u64);
-    field(b" ", m.neighbour as u64);
-    field(b" ", old.0 as u64);
-    field(b" ", new.0 as u64);
-    field(b" ", m.first as u64);
-    field(b" ", m.second as u64);
-    field(b" ", m.reason as u64);
-    io::write_all(STDOUT_FILENO, b"; verdicts");
-    write_verdicts(verdicts);
-    io::write_all(STDOUT_FILENO, b"\n");
+    field(rt, b"; ending ", o.ending as u64);
+    field(rt, b"; count ", o.count as u64);
+    field(rt, b"; sent ", m.kind as u64);
+    field(rt, b" ", m.neighbour as u64);
+    field(rt, b" ", old.0 as u64);
+    field(rt, b" ", new.0 as u64);
+    field(rt, b" ", m.first as u64);
+    field(rt, b" ", m.second as u64);
+    field(rt, b" ", m.reason as u64);
+    let _ = rt.print("; verdicts");
+    write_verdicts(rt, verdicts);
+    let _ = rt.print("\n");
 }
 
 // A case begins: its name.
-fn begun(mut c: Case, r: Record, next: usize) -> Case
+fn begun(rt: &HostRuntime, mut c: Case, r: Record, next: usize) -> Case
     requires { Reached c.station }
     ensures { Sound next result }
 {
     let mut name = [0u8; SIZE];
     r.write(&mut name, 0);
-    io::write_all(STDOUT_FILENO, &name[1..]);
+    let _ = rt.write_all(&name[1..]);
     c.at = next;
     c.first = next;
     c.plays = 1;
@@ -111,7 +113,7 @@ fn begun(mut c: Case, r: Record, next: usize) -> Case
 }
 
 // A fresh station.
-fn born(c: Case, r: Record, next: usize) -> Case
+fn born(rt: &HostRuntime, c: Case, r: Record, next: usize) -> Case
     ensures { Sound next result }
 {
     let prep = (r.time % 4_294_967_296) as u32;
@@ -125,7 +127,7 @@ fn born(c: Case, r: Record, next: usize) -> Case
     let birth = Station::new(settings);
     let station = birth.station;
     let last = c.last;
-    field(b" born ", birth.reply as u64);
+    field(rt, b" born ", birth.reply as u64);
     Case {
         station,
         room: r.first,
@@ -157,7 +159,7 @@ fn ends_at(script: &[u8], at: usize) -> bool {
 }
 
 // The case goes on after an event, or once more from its first record, or its line is ended.
-fn onward(mut c: Case, script: &[u8], o: Outcome, verdicts: &[u8]) -> Case
+fn onward(rt: &HostRuntime, mut c: Case, script: &[u8], o: Outcome, verdicts: &[u8]) -> Case
     requires { Sound (length script.now) c }
     ensures { Sound (length script.now) result }
 {
@@ -169,25 +171,25 @@ fn onward(mut c: Case, script: &[u8], o: Outcome, verdicts: &[u8]) -> Case
         c.at = c.first;
         return c;
     }
-    write_row(c.last, c.row);
-    write_outcome(o, verdicts);
+    write_row(rt, c.last, c.row);
+    write_outcome(rt, o, verdicts);
     c
 }
 
 // An event is answered.
-fn answer(c: Case, script: &[u8], verdicts: &mut [u8]) -> Case
+fn answer(rt: &HostRuntime, c: Case, script: &[u8], verdicts: &mut [u8]) -> Case
     requires { Sound (length script.now) c }
     ensures { Sound (length script.now) result }
 {
     let at = c.at;
     let before = c.station;
-    let room = io::count(c.room as isize, verdicts);
+    let room = (c.room as usize).min(verdicts.len());
     let piece = cut(&script[at..]);
     let end = at + piece.size;
     let a = answered(before, &script[at..end], &mut verdicts[..room]);
     let o = a.outcome;
     let station = a.station;
-    let shown = io::count((piece.size / SIZE) as isize, verdicts);
+    let shown = (piece.size / SIZE).min(verdicts.len());
     let last = Flaw {
         reply: o.reply,
         offset: o.offset,
@@ -200,9 +202,9 @@ fn answer(c: Case, script: &[u8], verdicts: &mut [u8]) -> Case
         first: c.first,
         plays: c.plays,
         last,
-        row: counted(c.last, c.row, last),
+        row: counted(rt, c.last, c.row, last),
     };
-    onward(next, script, o, &verdicts[..shown])
+    onward(rt, next, script, o, &verdicts[..shown])
 }
 
 // A verdict buffer in which no verdict stands. A request has at most 256 bearers, so that one place stays as found.
@@ -213,16 +215,16 @@ fn untouched() -> [u8; 257]
 }
 
 // An event, with a verdict buffer of its own.
-fn event(c: Case, script: &[u8]) -> Case
+fn event(rt: &HostRuntime, c: Case, script: &[u8]) -> Case
     requires { Sound (length script.now) c }
     ensures { Sound (length script.now) result }
 {
     let mut verdicts = untouched();
-    answer(c, script, &mut verdicts)
+    answer(rt, c, script, &mut verdicts)
 }
 
 // One record of the script's own, or an event.
-fn turn(c: Case, script: &[u8]) -> Case
+fn turn(rt: &HostRuntime, c: Case, script: &[u8]) -> Case
     requires { Sound (length script.now) c }
     ensures { Sound (length script.now) result }
 {
@@ -233,17 +235,17 @@ fn turn(c: Case, script: &[u8]) -> Case
             let next = at + SIZE;
             let kind = r.kind;
             match kind {
-                b'#' => begun(c, r, next),
-                b'*' => born(c, r, next),
+                b'#' => begun(rt, c, r, next),
+                b'*' => born(rt, c, r, next),
                 b'=' => repeated(c, r, next),
-                _ => event(c, script),
+                _ => event(rt, c, script),
             }
         }
-        Read::Nothing => event(c, script),
+        Read::Nothing => event(rt, c, script),
     }
 }
 
-fn play(script: &[u8]) {
+fn play(rt: &HostRuntime, script: &[u8]) {
     let least = Settings {
         capacity: 0,
         prep: 1,
@@ -269,13 +271,27 @@ fn play(script: &[u8]) {
     // A proved loop has to end: no script takes so many turns.
     let mut turns = u64::MAX;
     while (c.at < script.len()) & (0 < turns) {
-        c = turn(c, script);
+        c = turn(rt, c, script);
         turns -= 1;
     }
 }
 
-fn main() {
-    let mut input = io::large_buffer();
-    let held = io::read_full(STDIN_FILENO, &mut input);
-    play(&input[..held]);
+// Reads until the buffer is full, the input ends or a read fails, and answers how many bytes there are.
+fn read_full<R: io::Read>(input: &mut R, buffer: &mut [u8]) -> usize
+    ensures { result ≤ length buffer.new }
+{
+    let mut held = 0;
+    while held < buffer.len() {
+        match input.read(&mut buffer[held..]) {
+            Ok(0) | Err(_) => return held,
+            Ok(count) => held += count,
+        }
+    }
+    held
+}
+
+fn main(rt: HostRuntime) {
+    let mut input = [0u8; 65536];
+    let held = read_full(&mut rt.stdin(), &mut input);
+    play(&rt, &input[..held]);
 }

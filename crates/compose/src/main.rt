@@ -1,11 +1,13 @@
 // The compose program: lines of words from standard input, event records to standard output.
+#![tactic(auto)]
+
 ghost use Rattle.std.specs.Prelude.{◌≡◌, false};
 
 use composing::{Draft, LONGEST};
-use libc::{STDERR_FILENO, STDIN_FILENO, STDOUT_FILENO};
+use std::io::Read;
 
 // A run between two reads: the line as far as it was read, its number, and whether there is more to do.
-#[derive(Drop)]
+#[derive(Clone, Copy)]
 struct Stage {
     draft: Draft,
     line: u64,
@@ -13,50 +15,50 @@ struct Stage {
 }
 
 // Writes so many bytes of a word, or those that are kept of it.
-fn write_word(text: &[u8], size: usize) {
+fn write_word(rt: &HostRuntime, text: &[u8], size: usize) {
     if text.len() < size {
-        io::write_all(STDERR_FILENO, text);
+        let _ = rt.stderr().write_all(text);
         return;
     }
-    io::write_all(STDERR_FILENO, &text[..size]);
+    let _ = rt.stderr().write_all(&text[..size]);
 }
 
 // Tells of a line that is not understood, and at which word.
-fn complain(d: Draft, line: u64) {
+fn complain(rt: &HostRuntime, d: Draft, line: u64) {
     let w = d.word;
     let text = w.text;
-    io::write_all(STDERR_FILENO, b"compose: line ");
-    io::print_decimal(STDERR_FILENO, line);
+    let _ = rt.eprint("compose: line ");
+    let _ = rt.eprint(line);
     if d.mode == 5 {
-        io::write_all(STDERR_FILENO, b": longer than the longest event\n");
+        let _ = rt.eprint(": longer than the longest event\n");
         return;
     }
-    io::write_all(STDERR_FILENO, b": not understood: ");
-    write_word(&text, w.size);
-    io::write_all(STDERR_FILENO, b"\n");
+    let _ = rt.eprint(": not understood: ");
+    write_word(rt, &text, w.size);
+    let _ = rt.eprint("\n");
 }
 
 // Writes the records of a line that has ended, or tells why there are none: whether the output took them.
-fn write_line(d: Draft, line: u64, output: &[u8]) -> bool {
+fn write_line(rt: &HostRuntime, d: Draft, line: u64, output: &[u8]) -> bool {
     let size = d.staged;
     if (d.mode < 4) & (size <= output.len()) {
-        return io::write_all(STDOUT_FILENO, &output[..size]);
+        return rt.write_all(&output[..size]).is_ok();
     }
-    complain(d, line);
+    complain(rt, d, line);
     true
 }
 
 // Where a line has ended its records are written, and the next begins.
-fn next_line(s: Stage, output: &[u8]) -> Stage
+fn next_line(rt: &HostRuntime, s: Stage, output: &[u8]) -> Stage
     ensures { result.draft.ended ≡ false }
 {
     let draft = s.draft;
     if !draft.ended {
         return s;
     }
-    let is_written = write_line(draft, s.line, output);
+    let is_written = write_line(rt, draft, s.line, output);
     if !is_written {
-        io::write_all(STDERR_FILENO, b"compose: cannot write\n");
+        let _ = rt.eprint("compose: cannot write\n");
     }
     let fresh = Draft::new();
     Stage {
@@ -67,7 +69,7 @@ fn next_line(s: Stage, output: &[u8]) -> Stage
 }
 
 // Reads the bytes of a block, one line after the other.
-fn take_all(s: Stage, bytes: &[u8], output: &mut [u8]) -> Stage
+fn take_all(rt: &HostRuntime, s: Stage, bytes: &[u8], output: &mut [u8]) -> Stage
     requires { s.draft.ended ≡ false }
     ensures { result.draft.ended ≡ false }
 {
@@ -82,26 +84,28 @@ fn take_all(s: Stage, bytes: &[u8], output: &mut [u8]) -> Stage
             line: now.line,
             more: now.more,
         };
-        now = next_line(read, output);
+        now = next_line(rt, read, output);
         taken += progress.taken;
     }
     now
 }
 
 // Reads once, and takes what is there. At the end of the input the last line ends too.
-fn turn(s: Stage, input: &mut [u8], output: &mut [u8]) -> Stage
+fn turn(rt: &HostRuntime, s: Stage, input: &mut [u8], output: &mut [u8]) -> Stage
     requires { s.draft.ended ≡ false }
     ensures { result.draft.ended ≡ false }
 {
-    let got = libc::read(STDIN_FILENO, input);
-    if got < 0 {
-        io::write_all(STDERR_FILENO, b"compose: cannot read\n");
-    }
-    let count = io::count(got, input);
+    let count = match rt.stdin().read(input) {
+        Ok(count) => count,
+        Err(_) => {
+            let _ = rt.eprint("compose: cannot read\n");
+            0
+        }
+    };
     if 0 < count {
-        return take_all(s, &input[..count], output);
+        return take_all(rt, s, &input[..count], output);
     }
-    let last = take_all(s, b"\n", output);
+    let last = take_all(rt, s, b"\n", output);
     let draft = last.draft;
     Stage {
         draft,
@@ -110,8 +114,8 @@ fn turn(s: Stage, input: &mut [u8], output: &mut [u8]) -> Stage
     }
 }
 
-fn main() {
-    let mut input = io::large_buffer();
+fn main(rt: HostRuntime) {
+    let mut input = [0u8; 65536];
     let mut output = [0u8; LONGEST];
     let draft = Draft::new();
     let mut s = Stage {
@@ -122,7 +126,7 @@ fn main() {
     // A proved loop has to end, and nothing says that the input does: no run takes so many turns.
     let mut turns = u64::MAX;
     while s.more & (0 < turns) {
-        s = turn(s, &mut input, &mut output);
+        s = turn(&rt, s, &mut input, &mut output);
         turns -= 1;
     }
 }

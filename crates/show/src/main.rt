@@ -1,10 +1,12 @@
 // The show program: event records from standard input, one line of words per event to standard output.
+#![tactic(auto)]
+
 use buffers::carry;
-use libc::{STDERR_FILENO, STDIN_FILENO, STDOUT_FILENO};
 use showing::{ROOM, Sheet};
+use std::io::Read;
 
 // A run between two reads: how many bytes the input buffer holds, and whether there is more to do.
-#[derive(Drop)]
+#[derive(Clone, Copy)]
 struct Stage {
     sheet: Sheet,
     held: usize,
@@ -12,19 +14,19 @@ struct Stage {
 }
 
 // Writes so many bytes of the output buffer: whether the output took them.
-fn write_text(output: &[u8], size: usize) -> bool {
+fn write_text(rt: &HostRuntime, output: &[u8], size: usize) -> bool {
     if output.len() < size {
         return false;
     }
-    if io::write_all(STDOUT_FILENO, &output[..size]) {
+    if rt.write_all(&output[..size]).is_ok() {
         return true;
     }
-    io::write_all(STDERR_FILENO, b"show: cannot write\n");
+    let _ = rt.eprint("show: cannot write\n");
     false
 }
 
 // Shows the first so many records.
-fn show_all(s: Stage, bytes: &[u8], output: &mut [u8]) -> Stage {
+fn show_all(rt: &HostRuntime, s: Stage, bytes: &[u8], output: &mut [u8]) -> Stage {
     let mut sheet = s.sheet;
     let mut more = true;
     let mut left = bytes.len();
@@ -32,7 +34,7 @@ fn show_all(s: Stage, bytes: &[u8], output: &mut [u8]) -> Stage {
     while more & (32 <= left) {
         let shown = sheet.show(&bytes[taken..], output);
         sheet = shown.sheet;
-        more = write_text(output, shown.written);
+        more = write_text(rt, output, shown.written);
         left -= 32;
         taken += 32;
     }
@@ -45,7 +47,7 @@ fn show_all(s: Stage, bytes: &[u8], output: &mut [u8]) -> Stage {
 
 // Reads once, shows the whole records that are there, and carries the rest to the front. At the end of the input the rest is
 // shown too.
-fn turn(s: Stage, input: &mut [u8], output: &mut [u8]) -> Stage {
+fn turn(rt: &HostRuntime, s: Stage, input: &mut [u8], output: &mut [u8]) -> Stage {
     let held = s.held;
     let sheet = s.sheet;
     if input.len() <= held {
@@ -55,14 +57,16 @@ fn turn(s: Stage, input: &mut [u8], output: &mut [u8]) -> Stage {
             more: false,
         };
     }
-    let got = libc::read(STDIN_FILENO, &mut input[held..]);
-    if got < 0 {
-        io::write_all(STDERR_FILENO, b"show: cannot read\n");
-    }
-    let count = io::count(got, &input[held..]);
+    let count = match rt.stdin().read(&mut input[held..]) {
+        Ok(count) => count,
+        Err(_) => {
+            let _ = rt.eprint("show: cannot read\n");
+            0
+        }
+    };
     if count == 0 {
         let size = sheet.finish(&input[..held], output);
-        write_text(output, size);
+        write_text(rt, output, size);
         return Stage {
             sheet,
             held,
@@ -70,7 +74,7 @@ fn turn(s: Stage, input: &mut [u8], output: &mut [u8]) -> Stage {
         };
     }
     let end = held + count;
-    let shown = show_all(s, &input[..end], output);
+    let shown = show_all(rt, s, &input[..end], output);
     let next = shown.sheet;
     let left = carry(input, shown.held, end);
     Stage {
@@ -80,8 +84,8 @@ fn turn(s: Stage, input: &mut [u8], output: &mut [u8]) -> Stage {
     }
 }
 
-fn main() {
-    let mut input = io::large_buffer();
+fn main(rt: HostRuntime) {
+    let mut input = [0u8; 65536];
     let mut output = [0u8; ROOM];
     let sheet = Sheet::new();
     let mut s = Stage {
@@ -92,7 +96,7 @@ fn main() {
     // A proved loop has to end, and nothing says that the input does: no run takes so many turns.
     let mut turns = u64::MAX;
     while s.more & (0 < turns) {
-        s = turn(s, &mut input, &mut output);
+        s = turn(&rt, s, &mut input, &mut output);
         turns -= 1;
     }
 }

@@ -1,13 +1,15 @@
 // The station program: event records from standard input, one line per event to standard output.
+#![tactic(auto)]
+
 ghost use Rattle.std.specs.Prelude.{length};
 ghost use Rattle.station.specs.Stages.{Sound};
 
 use buffers::carry;
-use libc::{STDERR_FILENO, STDIN_FILENO, STDOUT_FILENO};
 use lines::Run;
+use std::io::Read;
 
 // A run between two reads: how many bytes the input buffer holds, whether the input has ended, and whether there is more to do.
-#[derive(Drop)]
+#[derive(Clone, Copy)]
 struct Stage {
     run: Run,
     held: usize,
@@ -16,7 +18,7 @@ struct Stage {
 }
 
 // Answers what the input buffer holds, writes the lines, and carries the rest to the front.
-fn answer(s: Stage, input: &mut [u8], output: &mut [u8]) -> Stage
+fn answer(rt: &HostRuntime, s: Stage, input: &mut [u8], output: &mut [u8]) -> Stage
     requires { Sound (length input.old) s }
     ensures { Sound (length input.old) result }
 {
@@ -25,9 +27,9 @@ fn answer(s: Stage, input: &mut [u8], output: &mut [u8]) -> Stage
     let p = run.answer(&input[..held], s.ended, output);
     let next = p.run;
     let written = p.written;
-    let is_written = io::write_all(STDOUT_FILENO, &output[..written]);
+    let is_written = rt.write_all(&output[..written]).is_ok();
     if !is_written {
-        io::write_all(STDERR_FILENO, b"station: cannot write\n");
+        let _ = rt.eprint("station: cannot write\n");
     }
     let left = carry(input, p.taken, held);
     Stage {
@@ -39,38 +41,36 @@ fn answer(s: Stage, input: &mut [u8], output: &mut [u8]) -> Stage
 }
 
 // Reads once, and answers what is there.
-fn turn(s: Stage, input: &mut [u8], output: &mut [u8]) -> Stage
+fn turn(rt: &HostRuntime, s: Stage, input: &mut [u8], output: &mut [u8]) -> Stage
     requires { Sound (length input.old) s }
     ensures { Sound (length input.old) result }
 {
     let held = s.held;
     let run = s.run;
     if s.ended {
-        return answer(s, input, output);
+        return answer(rt, s, input, output);
     }
-    let got = libc::read(STDIN_FILENO, &mut input[held..]);
-    if got < 0 {
-        io::write_all(STDERR_FILENO, b"station: cannot read\n");
+    let Ok(count) = rt.stdin().read(&mut input[held..]) else {
+        let _ = rt.eprint("station: cannot read\n");
         return Stage {
             run,
             held,
             ended: true,
             more: false,
         };
-    }
-    let count = io::count(got, &input[held..]);
+    };
     let next = Stage {
         run,
         held: held + count,
         ended: (count == 0) & (held < input.len()),
         more: true,
     };
-    answer(next, input, output)
+    answer(rt, next, input, output)
 }
 
-fn main() {
-    let mut input = io::large_buffer();
-    let mut output = io::large_buffer();
+fn main(rt: HostRuntime) {
+    let mut input = [0u8; 65536];
+    let mut output = [0u8; 65536];
     let run = Run::new();
     let mut s = Stage {
         run,
@@ -81,7 +81,7 @@ fn main() {
     // A proved loop has to end, and nothing says that the input does: no run takes so many turns.
     let mut turns = u64::MAX;
     while s.more & (0 < turns) {
-        s = turn(s, &mut input, &mut output);
+        s = turn(&rt, s, &mut input, &mut output);
         turns -= 1;
     }
 }
