@@ -57,14 +57,14 @@ used most value = by_cases (eqb value 0) (λ t. rw t (sym (le-leb value most (om
 pub only_zero : (value : ℕ) → eqb value 0 ≡ leb value 0
 only_zero value = sym (or-false (eqb value 0)) ∙ not_used value
 
-in_limit : (limit used_by_lem entry value : ℕ) → eqb limit 3 ≡ false → eqb limit 5 ≡ false → same limit used_by_lem entry ≡ true → in_range used_by_lem (get_or mosts limit 0) value ≡ fits entry value
-in_limit limit used_by_lem entry value three five t =
+in_limit : (limit users entry value : ℕ) → eqb limit 3 ≡ false → eqb limit 5 ≡ false → same limit users entry ≡ true → in_range users (get_or mosts limit 0) value ≡ fits entry value
+in_limit limit users entry value three five t =
     ⊎_elim
-    (λ none. let both = both_true (eqb entry 0) (eqb used_by_lem 0) none in
-    rw (eqb-true entry 0 both.0, eqb-true used_by_lem 0 both.1) (not_used value))
-    (λ some. let both = both_true (eqb entry limit) (eqb used_by_lem 1) some in
-    rw (eqb-true entry limit both.0, eqb-true used_by_lem 1 both.1, three, five) (used (get_or mosts limit 0) value))
-    (either_true (eqb entry 0 && eqb used_by_lem 0) (eqb entry limit && eqb used_by_lem 1) t)
+    (λ none. let both = both_true (eqb entry 0) (eqb users 0) none in
+    rw (eqb-true entry 0 both.0, eqb-true users 0 both.1) (not_used value))
+    (λ some. let both = both_true (eqb entry limit) (eqb users 1) some in
+    rw (eqb-true entry limit both.0, eqb-true users 1 both.1, three, five) (used (get_or mosts limit 0) value))
+    (either_true (eqb entry 0 && eqb users 0) (eqb entry limit && eqb users 1) t)
 
 module _ (e : Record) (event : eqb (sort_of e.kind) no_event ≡ false) where
   -- An event's row agrees with its uses.

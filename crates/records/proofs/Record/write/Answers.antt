@@ -1,14 +1,7 @@
 -- Where there is room, the record's bytes are copied over the part that starts at the place.
-use borrow.Author.Tests.{leb-true}
-use Prim.Native.Nat.{◌+◌, ◌≤◌}
 use mathlib.Core.Path.{sym, ◌∙◌}
-use lib.ListN.{length}
 use Rattle.laws.proofs.Lists.{replaced}
-use Rattle.records.proofs.Record.write.Goals.{Then-has_room}
 use Rattle.records.proofs.Record.write.Goals as goal
-
-room : (c : Then-has_room) → c.args.at + 32 ≤ length c.args.buffer.now
-room c = leb-true _ _ (sym c.has_room.ensures ∙ c.if-has_room.true)
 
 pub returns-then-has_room : goal.returns-then-has_room
 returns-then-has_room c =
