@@ -1,8 +1,11 @@
 -- What a station answers to an event.
-use Rattle.std.specs.Prelude.{ℕ, cond, eqb}
+use Rattle.std.specs.Prelude.{ℕ}
+use Rattle.std.specs.Option.{unwrap_or}
 use Rattle.records.specs.declared.Record.{Record}
 use Rattle.fields.specs.Fields.{fault_of}
 use Rattle.bearers.specs.declared.Flaw.{Flaw}
+use Rattle.bearers.specs.Flaws.{flaw_at}
+pub use Rattle.bearers.specs.Flaws.{missing}
 use Rattle.handover.specs.Events.{silence}
 use Rattle.answers.specs.declared.Outcome.{Outcome}
 
@@ -17,10 +20,6 @@ said reply ending count sent = record { reply = reply; ending = ending; offset =
 abbrev pub quiet : ℕ → Outcome
 quiet reply = said reply 0 0 silence
 
--- "13 count not 1 to 256 or bearers missing"; "13 names 12"
-abbrev pub missing : Flaw
-missing = record { reply = 13; offset = 12; place = 0 }
-
 -- what is wrong with a malformed event by itself: its kind or a field, else a request's count or its bearers; "0 for the request itself"
 abbrev pub flaw_in : Record → Flaw
-flaw_in e = cond (eqb (fault_of e).reply 0) missing (record { reply = (fault_of e).reply; offset = (fault_of e).offset; place = 0 })
+flaw_in e = unwrap_or (flaw_at (fault_of e) 0) missing

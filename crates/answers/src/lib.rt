@@ -64,14 +64,9 @@ pub fn said(reply: u8, ending: u8, count: u32, message: Record) -> Outcome
 pub fn flaw_in(e: Record) -> Flaw
     ensures { result ≡ flaw_in e }
 {
-    let fault = fault_of(e);
-    if fault.reply == 0 {
-        return missing();
-    }
-    Flaw {
-        reply: fault.reply,
-        offset: fault.offset,
-        place: 0,
+    match fault_of(e) {
+        Some(fault) => Flaw::at(fault, 0),
+        None => missing(),
     }
 }
 
@@ -79,9 +74,5 @@ pub fn flaw_in(e: Record) -> Flaw
 pub fn missing() -> Flaw
     ensures { result ≡ missing_of }
 {
-    Flaw {
-        reply: 13,
-        offset: 12,
-        place: 0,
-    }
+    Flaw::missing()
 }

@@ -1,22 +1,24 @@
 -- What the code leaves is what admission says: the admitted set, and each verdict by it.
 use Prim.Native.Nat.{ℕ, ◌-◌, ◌≤◌, ◌<◌}
 use mathlib.Core.Path.{◌≡◌, ◌∙◌, sym, ap, ap₂}
-use mathlib.Core.Bool.{Bool, true, not}
+use mathlib.Core.Bool.{Bool, true, cond, not, ◌&&◌}
 use mathlib.Core.List.{List, [], ◌∷◌, ◌++◌, map}
 use borrow.Author.Tests.{le-leb, lt-ltb}
 use native.Mathlib.Omega.{arith}
 use lib.Bits.{or_zero_l}
-use lib.Dec.{eqb}
+use lib.Dec.{ltb, eqb}
+use Rattle.std.proofs.Common.{is_none}
 use lib.ListN.{length, get_or, drop, replicate, length-append, length-replicate, get_or-replicate, get_or-append}
 use lib.Seq.{get_or-take, drop_at}
 use Rattle.laws.specs.Sums.{total}
-use Rattle.laws.proofs.Tests.{both_true}
+use Rattle.laws.proofs.Tests.{by_cases, both_true}
 use Rattle.records.specs.declared.Record.{Record}
 use Rattle.bearers.specs.declared.Bearer.{Bearer}
 use Rattle.bearers.specs.declared.Survey.{Survey}
-use Rattle.bearers.specs.Admission.{those, occurs, has_turn, release8, turns, verdict, admitted, refused, ids_of}
+use Rattle.bearers.specs.Admission.{those, occurs, standing, has_turn, release8, turns, verdict, admitted, refused, ids_of}
 use Rattle.bearers.specs.Bearer.{is_bearer, bearer_of, all_bearers}
-use Rattle.bearers.specs.Working.{alone, Surveyed, firsts_of, clear, run, sorted, settled_by, refused_by, written}
+use Rattle.bearers.specs.Working.{alone, Surveyed, firsts_of, clear, run, sorted, code, standing_by, settled, settled_by, refused_by, written}
+use Rattle.sets.specs.Sets.{member}
 use Rattle.bearers.proofs.Admitted.{granted_ids, verdict_member}
 use Rattle.bearers.proofs.Firsts.{same_ids}
 use Rattle.bearers.proofs.Granted.{units, grants, granted, run_granted, granted_total, turn_once}
@@ -33,6 +35,25 @@ each_formed [] t = tt
 each_formed (r ∷ rs) t =
     let both : (is_bearer r ≡ true) × (all_bearers rs ≡ true) = both_true (is_bearer r) (all_bearers rs) t in
     (formed r both.0, each_formed rs both.1)
+
+-- The code's reasons are those of the verdicts 1, 2 and 3.
+clear_standing : (times : ℕ) (b : Bearer) → is_none (standing_by (ltb 1 times) b) ≡ eqb (standing release8 times b) 0
+clear_standing times b =
+    by_cases (ltb 1 times)
+    (λ t. rw t)
+    (λ t. rw t (by_cases (eqb b.priority 0) (λ u. rw u) (λ u. rw u (by_cases (release8 b.qci && not b.gbr) (λ v. rw v) (λ v. rw v)))))
+
+settled_standing : (times set : ℕ) (b : Bearer) → code (settled (ltb 1 times) set b) ≡ cond (eqb (standing release8 times b) 0) (cond (member set b.id) 0 4) (standing release8 times b)
+settled_standing times set b =
+    by_cases (ltb 1 times)
+    (λ t. rw t)
+    (λ t. rw t
+    (by_cases (eqb b.priority 0)
+    (λ u. rw u)
+    (λ u. rw u
+    (by_cases (release8 b.qci && not b.gbr)
+    (λ v. rw v)
+    (λ v. rw v (by_cases (member set b.id) (λ w. rw w) (λ w. rw w)))))))
 
 module _ (bs : List Bearer) (s : Survey) (known : Surveyed bs s) where
   -- A bearer whose ID occurs more than once has verdict 1.
@@ -51,7 +72,7 @@ module _ (bs : List Bearer) (s : Survey) (known : Surveyed bs s) where
         of_only xs = those_wider test (alone bs) xs (λ b t. le-leb (occurs b.id bs) 1 (turn_once release8 bs b t).0)
 
         first : Each (λ b. clear s b ≡ has_turn release8 bs b) (firsts_of s)
-        first = each_map _ _ (firsts_of s) (λ b small. rw (known.again b.id small)) (firsts_small s known.tidy)
+        first = each_map _ _ (firsts_of s) (λ b small. rw (known.again b.id small) (clear_standing (occurs b.id bs) b)) (firsts_small s known.tidy)
 
     module _ (free : ℕ) where
       -- the admitted set
@@ -64,7 +85,7 @@ module _ (bs : List Bearer) (s : Survey) (known : Surveyed bs s) where
           each_split _ bs
           (λ before b later e.
           let formed : Formed b = each_here Formed before b later e each in
-          rw (known.again b.id formed.0) (sym (verdict_member release8 free bs each before b later e)))
+          rw (known.again b.id formed.0) (settled_standing (occurs b.id bs) set b ∙ sym (verdict_member release8 free bs each before b later e)))
 
       -- So a buffer of ones has all verdicts once those of the first bearers are written.
       pub settled_verdicts : (buffer : List ℕ) → length bs ≤ length buffer → written (settled_by s set) s.places (firsts_of s) (replicate (length bs) 1 ++ drop (length bs) buffer) ≡ map (verdict release8 free bs) bs ++ drop (length bs) buffer

@@ -1,7 +1,6 @@
 pub mod Admitted
 pub mod Buffers
 pub mod Firsts
-pub mod Flawing
 pub mod Flaws
 pub mod Granted
 pub mod Judging

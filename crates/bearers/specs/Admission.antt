@@ -1,12 +1,11 @@
 -- Admission at the target. What bearers are judged by is a list of them, in the order of the request; which QCIs are GBR
 -- classes is a parameter, `gbr`.
-use Rattle.std.specs.Prelude.{ℕ, zero, suc, ◌+◌, ◌-◌, ◌/◌, Bool, cond, not, ◌&&◌, List, [], ◌∷◌, ◌++◌, map, leb, ltb, eqb, length, drop, replicate}
+use Rattle.std.specs.Prelude.{ℕ, zero, suc, ◌+◌, ◌-◌, ◌/◌, Bool, cond, not, ◌&&◌, List, [], ◌∷◌, ◌++◌, map, leb, ltb, eqb, length, drop, replicate, Option, Some, None, Result, Ok, Err}
 use Rattle.std.specs.Int.Count.{ones}
 use Rattle.laws.specs.Sums.{total}
 use Rattle.bearers.specs.declared.Admission.{Admission}
 use Rattle.bearers.specs.declared.Bearer.{Bearer}
-use Rattle.bearers.specs.declared.Judgement.{Judgement}
-use Rattle.bearers.specs.declared.Judgement.TheVariants.{Given, Flawed}
+use Rattle.bearers.specs.declared.Flaw.{Flaw}
 use Rattle.bearers.specs.Bearer.{records_in, bearers_in, all_bearers}
 use Rattle.bearers.specs.Flaws.{is_list, flaw_of}
 use Rattle.sets.specs.Sets.{set_of}
@@ -87,17 +86,22 @@ countable size room = is_list size && leb (size / 32) room
 abbrev pub judgeable : List ℕ → ℕ → Bool
 judgeable bytes room = countable (length bytes) room && all_bearers (records_in (length bytes / 32) bytes)
 
-abbrev pub judgement_of : List ℕ → ℕ → ℕ → Judgement
-judgement_of bytes free room = cond (judgeable bytes room) (Given (admission_of release8 free (bearers_in (length bytes / 32) bytes))) (Flawed (flaw_of bytes room))
+-- what is wrong, or else what is admitted
+abbrev pub judged : Option Flaw → Admission → Result Admission Flaw
+judged (Some flaw) a = Err flaw
+judged None a = Ok a
+
+abbrev pub judgement_of : List ℕ → ℕ → ℕ → Result Admission Flaw
+judgement_of bytes free room = judged (flaw_of bytes room) (admission_of release8 free (bearers_in (length bytes / 32) bytes))
 
 -- its number among the replies, and the count with it: "no bearer admitted", 5, else done, 0; or what is wrong with the bearers
-abbrev pub reply_of : Judgement → ℕ
-reply_of (Given a) = cond (eqb a.admitted 0) 5 0
-reply_of (Flawed f) = f.reply
+abbrev pub reply_of : Result Admission Flaw → ℕ
+reply_of (Ok a) = cond (eqb a.admitted 0) 5 0
+reply_of (Err flaw) = flaw.reply
 
-abbrev pub count_of : Judgement → ℕ
-count_of (Given a) = a.count
-count_of (Flawed flaw) = 0
+abbrev pub count_of : Result Admission Flaw → ℕ
+count_of (Ok a) = a.count
+count_of (Err flaw) = 0
 
 -- "Verdicts go to a lent buffer, one byte per bearer in request order, the rest untouched."
 abbrev pub verdicts_in : List ℕ → ℕ → List ℕ → List ℕ

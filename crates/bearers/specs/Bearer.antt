@@ -1,18 +1,16 @@
 -- A bearer of a request, and the record that holds it.
-use Rattle.std.specs.Prelude.{ℕ, zero, suc, Bool, true, cond, ◌&&◌, List, [], ◌∷◌, map, eqb, take, drop}
+use Rattle.std.specs.Prelude.{ℕ, zero, suc, Bool, true, cond, ◌&&◌, List, [], ◌∷◌, map, eqb, take, drop, Option, Some, None}
 use Rattle.records.specs.declared.Record.{Record}
 use Rattle.records.specs.Record.{record_of}
 pub use Rattle.fields.specs.Fields.{is_bearer}
 use Rattle.bearers.specs.declared.Bearer.{Bearer}
-use Rattle.bearers.specs.declared.Parsed.{Parsed}
-use Rattle.bearers.specs.declared.Parsed.TheVariants.{Whole, Malformed}
 
 -- what a bearer's record says of it
 abbrev pub bearer_of : Record → Bearer
 bearer_of r = record { id = r.erab; units = r.number; qci = r.qci; priority = r.priority; gbr = eqb r.flags 1 }
 
-abbrev pub parsed : Record → Parsed
-parsed r = cond (is_bearer r) (Whole (bearer_of r)) Malformed
+abbrev pub parsed : Record → Option Bearer
+parsed r = cond (is_bearer r) (Some (bearer_of r)) None
 
 -- so many records, one after the other
 unfoldable pub records_in : ℕ → List ℕ → List Record

@@ -1,8 +1,9 @@
 -- How many digits a number has, and how long the texts of numbers are.
-use Prim.Native.Nat.{ℕ, zero, suc, ◌+◌, ◌*◌, ◌/◌, ◌%◌, ◌≤◌, ◌<◌}
-use mathlib.Core.Path.{◌≡◌, refl, ◌∙◌}
+use Prim.Native.Nat.{ℕ, zero, suc, ◌+◌, ◌*◌, ◌/◌, ◌%◌, ◌^◌, ◌≤◌, ◌<◌}
+use mathlib.Core.Path.{◌≡◌, refl, ap, ◌∙◌}
 use mathlib.Core.List.{List, [], ◌∷◌}
 use borrow.Author.Tests.{le-leb, lt-leb}
+use native.Mathlib.Nat.{one-le-pow}
 use native.Mathlib.Omega.{arith}
 use lib.Dec.{leb}
 use lib.ListN.{length, length-append}
@@ -58,3 +59,11 @@ pub spaced_most : (ns : List ℕ) → length (spaced ns) ≤ cell_room * length 
 unfolding spaced
 spaced_most [] = omega arith
 spaced_most (n ∷ ns) = rw (length-append (cell n 32) (spaced ns)) (omega (arith, cell_most n 32, spaced_most ns))
+
+-- A number has one digit more than the greatest power of ten up to it has noughts.
+pub size_by_power : (most last n : ℕ) → last ≤ most → 10 ^ last ≤ n → n < 10 * 10 ^ last → size_in most n ≡ suc last
+size_by_power most zero n h low high = one_digit most n (omega arith)
+size_by_power zero (suc last) n h low high = absurd (omega arith)
+size_by_power (suc most) (suc last) n h low high =
+    let some : 1 ≤ 10 ^ last = one-le-pow last 10 (omega arith) in
+    more_digits most n (omega arith) ∙ ap suc (size_by_power most last (n / 10) (omega arith) (omega arith) (omega arith))

@@ -1,13 +1,15 @@
 -- Stores one after the other: what a buffer holds after two texts, and after one whose last byte is stored first.
 use Prim.Native.Nat.{ℕ, suc, ◌+◌, ◌≤◌}
-use borrow.Author.Tests.{le-leb}
 use mathlib.Core.Path.{◌≡◌, refl, sym, ap, ◌∙◌}
 use mathlib.Core.List.{List, [], ◌∷◌, ◌++◌}
 use native.Mathlib.Nat.{add-zero, add_assoc}
 use native.Mathlib.Omega.{arith}
-use lib.ListN.{length, length-append, set}
-use lib.Seq.{sets, set_comm}
-use Rattle.buffers.specs.Buffers.{Writes, fitting}
+use borrow.Rule.Slice.PartMut.{put_mid}
+use lib.ListN.{length, length-append, set, take, drop}
+use lib.Seq.{sets, sets-eq, set_comm}
+use Rattle.std.proofs.lemmas.List.{take_all}
+use Rattle.std.proofs.lemmas.Slice.{put_mid-paste}
+use Rattle.buffers.specs.Buffers.{Writes}
 
 -- A text and then another are the two put together.
 pub sets_append : (l : List ℕ) (i : ℕ) (xs ys : List ℕ) → sets l i (xs ++ ys) ≡ sets (sets l i xs) (i + length xs) ys
@@ -23,6 +25,14 @@ last_first l i (x ∷ xs) y =
     let there : suc i + length xs ≡ i + suc (length xs) = omega arith in
     last_first (set l i x) (suc i) xs y
     ∙ ap (λ (m : List ℕ). sets m (suc i) xs) (set_comm l i (suc i + length xs) x y (λ e. omega arith) ∙ ap (λ (k : ℕ). set (set l k y) i x) there)
+
+-- A text that is copied over a part of a buffer is stored there.
+pub copied : (out : List ℕ) (at k : ℕ) (text : List ℕ) → k ≡ length text → at + k ≤ length out → put_mid at k out text ≡ sets out at text
+copied out at k text size room =
+    let whole : take (length text) text ≡ text = take_all (length text) text (omega arith) in
+    put_mid-paste at k out text text (length text) refl (sym size) refl
+    ∙ ap (λ (xs : List ℕ). take at out ++ xs ++ drop (at + length text) out) whole
+    ∙ sym (sets-eq text out at (omega arith))
 
 -- What is stored is written; nothing is written by itself.
 pub stored : (out : List ℕ) (at : ℕ) (text : List ℕ) → Writes out (sets out at text) at text (at + length text)
@@ -55,7 +65,3 @@ module _ {before now : List ℕ} {at : ℕ} {whole : List ℕ} {here : ℕ} wher
   -- Nothing of it is left.
   pub completed : Completes before now at whole here [] → Writes before now at whole here
   completed owed = record { next = omega (arith, owed.next); bytes = owed.bytes }
-
--- What has room is written.
-pub fitted : {before after text : List ℕ} {at wanted r : ℕ} → wanted ≤ length before → Writes before after at (fitting wanted before text) r → Writes before after at text r
-fitted {before} {wanted = wanted} room wrote = rw (le-leb wanted (length before) room) at wrote

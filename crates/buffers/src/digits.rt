@@ -10,13 +10,7 @@ use crate::has_room;
 pub fn size(n: u64) -> usize
     ensures { result ≡ size_of n }
 {
-    let mut k = 1;
-    let mut rest = n;
-    while 10 <= rest {
-        rest /= 10;
-        k += 1;
-    }
-    k
+    n.max(1).ilog10() as usize + 1
 }
 
 // Writes the last so many digits of a number from a place on, if the buffer has room for them.
@@ -26,11 +20,9 @@ pub fn spell(n: u64, k: usize, out: &mut [u8], at: usize)
     if !has_room(out.len(), at, k) {
         return;
     }
-    let mut i = k;
     let mut rest = n;
-    while 0 < i {
-        i -= 1;
-        out[at + i] = 48 + (rest % 10) as u8;
+    for i in (0..k).rev() {
+        out[at + i] = b'0' + (rest % 10) as u8;
         rest /= 10;
     }
 }

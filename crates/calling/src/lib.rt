@@ -20,9 +20,8 @@ pub fn last_outcome(
         overall: 2000,
         guard: 3000,
     };
-    let birth = Station::new(settings);
-    let answer = birth.station.step(first);
-    let next = answer.station.step(second);
-    let last = next.station.request(request, bearers, verdicts);
-    last.outcome
+    let born = Station::new(settings).station;
+    let first = born.step(first).station;
+    let second = first.step(second).station;
+    second.request(request, bearers, verdicts).outcome
 }

@@ -16,11 +16,10 @@ ghost use Rattle.cases.specs.Scripts.{Sound};
 
 use answers::Outcome;
 use bearers::Flaw;
+use buffers::read_full;
 use lines::answered;
 use records::stream::cut;
-use records::{Read, Record, SIZE};
-use std::io;
-use std::num::wrapping_add_u64;
+use records::{Record, SIZE};
 use table::{Settings, Station};
 
 // A case under way.
@@ -65,30 +64,28 @@ fn write_row(rt: &HostRuntime, last: Flaw, row: u64) {
 
 // How often the next reply came in a row; the row of another before it is written.
 fn counted(rt: &HostRuntime, last: Flaw, row: u64, next: Flaw) -> u64 {
-    if (next.reply == last.reply) & (next.offset == last.offset) & (next.place == last.place) {
-        return wrapping_add_u64(row, 1);
+    if next == last {
+        return row.wrapping_add(1);
     }
     write_row(rt, last, row);
     1
 }
 
 fn write_verdicts(rt: &HostRuntime, verdicts: &[u8]) {
-    for i in 0..verdicts.len() {
-        field(rt, b" ", verdicts[i] as u64);
+    for verdict in verdicts {
+        field(rt, b" ", *verdict as u64);
     }
 }
 
 // Writes what an event gave beside the reply, and ends the line.
 fn write_outcome(rt: &HostRuntime, o: Outcome, verdicts: &[u8]) {
     let m = o.message;
-    let old = m.old;
-    let new = m.new;
     field(rt, b"; ending ", o.ending as u64);
     field(rt, b"; count ", o.count as u64);
     field(rt, b"; sent ", m.kind as u64);
     field(rt, b" ", m.neighbour as u64);
-    field(rt, b" ", old.0 as u64);
-    field(rt, b" ", new.0 as u64);
+    field(rt, b" ", m.old.0 as u64);
+    field(rt, b" ", m.new.0 as u64);
     field(rt, b" ", m.first as u64);
     field(rt, b" ", m.second as u64);
     field(rt, b" ", m.reason as u64);
@@ -98,113 +95,75 @@ fn write_outcome(rt: &HostRuntime, o: Outcome, verdicts: &[u8]) {
 }
 
 // A case begins: its name.
-fn begun(rt: &HostRuntime, mut c: Case, r: Record, next: usize) -> Case
-    requires { Reached c.station }
-    ensures { Sound next result }
+fn begun(rt: &HostRuntime, c: &mut Case, r: Record)
+    requires { Reached c.old.station }
+    ensures { Reached c.new.station }
 {
     let mut name = [0u8; SIZE];
     r.write(&mut name, 0);
     let _ = rt.write_all(&name[1..]);
-    c.at = next;
-    c.first = next;
     c.plays = 1;
     c.row = 0;
-    c
 }
 
 // A fresh station.
-fn born(rt: &HostRuntime, c: Case, r: Record, next: usize) -> Case
-    ensures { Sound next result }
+fn born(rt: &HostRuntime, c: &mut Case, r: Record)
+    ensures { Reached c.new.station }
 {
-    let prep = (r.time % 4_294_967_296) as u32;
-    let overall = (r.time / 4_294_967_296) as u32;
-    let settings = Settings {
+    let birth = Station::new(Settings {
         capacity: r.number,
-        prep,
-        overall,
+        prep: (r.time % 4_294_967_296) as u32,
+        overall: (r.time / 4_294_967_296) as u32,
         guard: r.bytes28,
-    };
-    let birth = Station::new(settings);
-    let station = birth.station;
-    let last = c.last;
+    });
     field(rt, b" born ", birth.reply as u64);
-    Case {
-        station,
-        room: r.first,
-        at: next,
-        first: next,
-        plays: c.plays,
-        last,
-        row: c.row,
-    }
-}
-
-// The records from here on are played so many times.
-fn repeated(mut c: Case, r: Record, next: usize) -> Case
-    requires { Reached c.station }
-    ensures { Sound next result }
-{
-    c.at = next;
-    c.first = next;
-    c.plays = r.number;
-    c
+    c.station = birth.station;
+    c.room = r.first;
 }
 
 // Whether the script or a case of it ends at a place.
 fn ends_at(script: &[u8], at: usize) -> bool {
-    if script.len() <= at {
-        return true;
-    }
-    script[at] == b'#'
+    script.get(at).is_none_or(|byte| *byte == b'#')
 }
 
 // The case goes on after an event, or once more from its first record, or its line is ended.
-fn onward(rt: &HostRuntime, mut c: Case, script: &[u8], o: Outcome, verdicts: &[u8]) -> Case
-    requires { Sound (length script.now) c }
-    ensures { Sound (length script.now) result }
+fn onward(rt: &HostRuntime, c: &mut Case, script: &[u8], o: Outcome, verdicts: &[u8])
+    requires { Sound (length script.now) c.old }
+    ensures { Sound (length script.now) c.new }
 {
     if !ends_at(script, c.at) {
-        return c;
+        return;
     }
     if 1 < c.plays {
         c.plays -= 1;
         c.at = c.first;
-        return c;
+        return;
     }
     write_row(rt, c.last, c.row);
     write_outcome(rt, o, verdicts);
-    c
 }
 
 // An event is answered.
-fn answer(rt: &HostRuntime, c: Case, script: &[u8], verdicts: &mut [u8]) -> Case
-    requires { Sound (length script.now) c }
-    ensures { Sound (length script.now) result }
+fn answer(rt: &HostRuntime, c: &mut Case, script: &[u8], verdicts: &mut [u8])
+    requires { Sound (length script.now) c.old }
+    ensures { Sound (length script.now) c.new }
 {
-    let at = c.at;
-    let before = c.station;
     let room = (c.room as usize).min(verdicts.len());
-    let piece = cut(&script[at..]);
-    let end = at + piece.size;
-    let a = answered(before, &script[at..end], &mut verdicts[..room]);
+    let piece = cut(&script[c.at..]);
+    let end = c.at + piece.size;
+    let a = answered(c.station, &script[c.at..end], &mut verdicts[..room]);
     let o = a.outcome;
-    let station = a.station;
-    let shown = (piece.size / SIZE).min(verdicts.len());
-    let last = Flaw {
+    let next = Flaw {
         reply: o.reply,
         offset: o.offset,
         place: o.place,
     };
-    let next = Case {
-        station,
-        room: c.room,
-        at: end,
-        first: c.first,
-        plays: c.plays,
-        last,
-        row: counted(rt, c.last, c.row, last),
-    };
-    onward(rt, next, script, o, &verdicts[..shown])
+    c.row = counted(rt, c.last, c.row, next);
+    c.last = next;
+    c.station = a.station;
+    c.at = end;
+    let shown = (piece.size / SIZE).min(verdicts.len());
+    onward(rt, c, script, o, &verdicts[..shown]);
 }
 
 // A verdict buffer in which no verdict stands. A request has at most 256 bearers, so that one place stays as found.
@@ -215,34 +174,31 @@ fn untouched() -> [u8; 257]
 }
 
 // An event, with a verdict buffer of its own.
-fn event(rt: &HostRuntime, c: Case, script: &[u8]) -> Case
-    requires { Sound (length script.now) c }
-    ensures { Sound (length script.now) result }
+fn event(rt: &HostRuntime, c: &mut Case, script: &[u8])
+    requires { Sound (length script.now) c.old }
+    ensures { Sound (length script.now) c.new }
 {
     let mut verdicts = untouched();
-    answer(rt, c, script, &mut verdicts)
+    answer(rt, c, script, &mut verdicts);
 }
 
 // One record of the script's own, or an event.
-fn turn(rt: &HostRuntime, c: Case, script: &[u8]) -> Case
-    requires { Sound (length script.now) c }
-    ensures { Sound (length script.now) result }
+fn turn(rt: &HostRuntime, c: &mut Case, script: &[u8])
+    requires { Sound (length script.now) c.old }
+    ensures { Sound (length script.now) c.new }
 {
-    let at = c.at;
-    let read = Record::read(script, at);
-    match read {
-        Read::Whole(r) => {
-            let next = at + SIZE;
-            let kind = r.kind;
-            match kind {
-                b'#' => begun(rt, c, r, next),
-                b'*' => born(rt, c, r, next),
-                b'=' => repeated(c, r, next),
-                _ => event(rt, c, script),
-            }
-        }
-        Read::Nothing => event(rt, c, script),
+    let Some(r) = Record::read(script, c.at) else {
+        return event(rt, c, script);
+    };
+    let next = c.at + SIZE;
+    match r.kind {
+        b'#' => begun(rt, c, r),
+        b'*' => born(rt, c, r),
+        b'=' => c.plays = r.number,
+        _ => return event(rt, c, script),
     }
+    c.at = next;
+    c.first = next;
 }
 
 fn play(rt: &HostRuntime, script: &[u8]) {
@@ -252,42 +208,26 @@ fn play(rt: &HostRuntime, script: &[u8]) {
         overall: 1,
         guard: 1,
     };
-    let birth = Station::new(least);
-    let station = birth.station;
-    let none = Flaw {
-        reply: 0,
-        offset: 0,
-        place: 0,
-    };
     let mut c = Case {
-        station,
+        station: Station::new(least).station,
         room: 0,
         at: 0,
         first: 0,
         plays: 1,
-        last: none,
+        last: Flaw {
+            reply: 0,
+            offset: 0,
+            place: 0,
+        },
         row: 0,
     };
     // A proved loop has to end: no script takes so many turns.
-    let mut turns = u64::MAX;
-    while (c.at < script.len()) & (0 < turns) {
-        c = turn(rt, c, script);
-        turns -= 1;
-    }
-}
-
-// Reads until the buffer is full, the input ends or a read fails, and answers how many bytes there are.
-fn read_full<R: io::Read>(input: &mut R, buffer: &mut [u8]) -> usize
-    ensures { result ≤ length buffer.new }
-{
-    let mut held = 0;
-    while held < buffer.len() {
-        match input.read(&mut buffer[held..]) {
-            Ok(0) | Err(_) => return held,
-            Ok(count) => held += count,
+    for _ in 0..u64::MAX {
+        if script.len() <= c.at {
+            break;
         }
+        turn(rt, &mut c, script);
     }
-    held
 }
 
 fn main(rt: HostRuntime) {

@@ -1,4 +1,3 @@
-pub mod Digits
 pub mod Machine
 pub mod Once
 pub mod Taken

@@ -1,5 +1,5 @@
 -- What a text means: a machine that takes one byte after the other.
-use Rattle.std.specs.Prelude.{ℕ, suc, ◌+◌, ◌*◌, ◌-◌, ◌/◌, ◌%◌, Bool, true, false, cond, ◌&&◌, ◌||◌, List, [], ◌∷◌, leb, ltb, eqb, length, get_or, set}
+use Rattle.std.specs.Prelude.{ℕ, suc, ◌+◌, ◌*◌, ◌-◌, ◌/◌, ◌%◌, Bool, true, false, cond, ◌&&◌, ◌||◌, List, [], ◌∷◌, leb, ltb, eqb, length, get_or, set, Option, Some, None}
 use Rattle.sets.specs.Sets.{add}
 use Rattle.records.specs.Record.{room_at, written_at}
 use Rattle.composing.specs.declared.Word.{Word}
@@ -122,10 +122,11 @@ chosen d word =
 abbrev pub raw_begun : Draft → Draft
 raw_begun d = record { values = d.values; field = field_count; mode = 2; staged = d.staged; word = empty_word; ended = d.ended }
 
--- what a hexadecimal digit stands for; 16 for any other byte
-unfoldable pub nibble : ℕ → ℕ
+-- what a hexadecimal digit stands for
+unfoldable pub nibble : ℕ → Option ℕ
 nibble b =
-    cond (leb 48 b && leb b 57) (b - 48) (cond (leb 97 b && leb b 102) (b - 87) (cond (leb 65 b && leb b 70) (b - 55) 16))
+    cond (leb 48 b && leb b 57) (Some (b - 48))
+    (cond (leb 97 b && leb b 102) (Some (b - 87)) (cond (leb 65 b && leb b 70) (Some (b - 55)) None))
 
 -- a line as far as it was read, and the buffer in which its records stand
 pub record Made : Type 0 where
@@ -155,25 +156,31 @@ on_draft f m = made (f m.draft) m.out
 abbrev pub with_word : Draft → Word → Draft
 with_word d w = record { values = d.values; field = d.field; mode = d.mode; staged = d.staged; word = w; ended = d.ended }
 
--- the byte of a word of two hexadecimal digits; 256 for any other word
-unfoldable pub hex_value : Word → ℕ
-hex_value w =
-    let high = nibble (get_or w.text 0 0) in
-    let low = nibble (get_or w.text 1 0) in
-    cond (eqb w.size 2 && leb high 15 && leb low 15) (high * 16 + low) 256
+-- the byte of two digits
+abbrev pub byte_of : Option ℕ → Option ℕ → Option ℕ
+byte_of (Some high) (Some low) = Some (high * 16 + low)
+byte_of (Some high) None = None
+byte_of None low = None
+
+-- the byte of a word of two hexadecimal digits
+unfoldable pub hex_value : Word → Option ℕ
+hex_value w = cond (eqb w.size 2) (byte_of (nibble (get_or w.text 0 0)) (nibble (get_or w.text 1 0))) None
 
 abbrev pub appended : Draft → Draft
 appended d = with_word (staged_by d 1) empty_word
 
--- such a word is a byte behind those that stand in the buffer: "64 hex digits writes any record, a shorter even number of digits a short
+-- a byte goes behind those that stand in the buffer: "64 hex digits writes any record, a shorter even number of digits a short
 -- piece", and one more is not understood
-unfoldable pub hex : Made → Made
-hex m =
+abbrev pub with_byte : Made → Option ℕ → Made
+with_byte m None = on_draft wrong m
+with_byte m (Some byte) =
     let d = m.draft in
-    let value = hex_value d.word in
-    cond (leb value 255 && leb d.staged 31)
-    (cond (leb (length m.out) d.staged) (on_draft too_long m) (made (appended d) (set m.out d.staged value)))
+    cond (leb d.staged 31)
+    (cond (leb (length m.out) d.staged) (on_draft too_long m) (made (appended d) (set m.out d.staged byte)))
     (on_draft wrong m)
+
+unfoldable pub hex : Made → Made
+hex m = with_byte m (hex_value m.draft.word)
 
 -- "a request with its bearers on one line": whether a bearer may follow the record that is being filled, which is a request, or stands
 -- behind other records as only a request's bearers do
@@ -194,13 +201,18 @@ understood m word =
     (cond (eqb word absent_word) (on_draft (λ e. put e 65535) m)
     (cond (eqb word raw_word && eqb d.mode 0) (on_draft raw_begun m) (on_draft wrong m))))
 
+-- a text that is no word of the table is not understood
+abbrev pub looked_up : Made → Option ℕ → Made
+looked_up m None = on_draft wrong m
+looked_up m (Some word) = understood m word
+
 -- a word has ended
 unfoldable pub settle : Made → Made
 settle m =
     let w = m.draft.word in
     cond (eqb w.size 0) m
     (cond (eqb m.draft.mode 2) (hex m)
-    (cond w.number (on_draft (λ d. put d w.value) m) (understood m (place_of w.text))))
+    (cond w.number (on_draft (λ d. put d w.value) m) (looked_up m (place_of w.text))))
 
 -- "request without count gets the number of bearer items of its line"
 abbrev pub lacks_count : Draft → List ℕ → Bool

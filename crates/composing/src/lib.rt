@@ -1,10 +1,11 @@
 // Lines of words in, records out: one byte of the text after the other.
 #![tactic(auto)]
 
-ghost use Rattle.std.specs.Prelude.{◌≡◌, ◌+◌, ◌^◌, ◌≤◌, ◌<◌, set};
+ghost use Rattle.std.specs.Prelude.{◌≡◌, ◌≤◌, ◌<◌, false, length, ltb, Some, None, if◌then◌else◌, IfSome};
 ghost use Rattle.words.specs.Words.{last_kind, last_field};
-ghost use Rattle.composing.specs.Composed.{is_gap, takes_digit, grown, longer, empty_word, pushed, added, next_field, wrong, too_long, put, begun, chosen, raw_begun, nibble, hex_value, appended, takes_bearer, may_begin, with_word, is_pair, commented, finished, made, stage, hex, understood, settle, lacks_count, counted, close, typed, step, new_draft, read_from, taken_from};
+ghost use Rattle.composing.specs.Composed.{takes_digit, grown, pushed, added, in_mode, wrong, put, begun, chosen, nibble, hex_value, takes_bearer, may_begin, made, stage, hex, understood, settle, lacks_count, counted, close, commented, typed, step, new_draft, read_from, taken_from};
 
+use records::Kind;
 use sets::add;
 use words::values::{is_set, record_from};
 use words::{ABSENT, LAST_FIELD, LAST_KIND, RAW, place_of};
@@ -12,14 +13,19 @@ use words::{ABSENT, LAST_FIELD, LAST_KIND, RAW, place_of};
 // The bytes of the longest event: a request, and 256 bearers.
 pub const LONGEST: usize = 8224;
 
-// A tenth of the greatest number of 64 bits.
-const TENTH: u64 = 1844674407370955161;
-
 // As many as there are fields: none of them.
 const NO_FIELD: usize = 15;
 
+// No word yet.
+const EMPTY: Word = Word {
+    text: [b' '; 16],
+    size: 0,
+    value: 0,
+    number: true,
+};
+
 // What a number in a field may be: for a set, an ID.
-const LIMITS: [u64; 15] = [
+static LIMITS: [u64; 15] = [
     255,
     255,
     65535,
@@ -38,7 +44,7 @@ const LIMITS: [u64; 15] = [
 ];
 
 // The field that the number after a word goes to: a kind's first field, or the field that the word names.
-const FIELDS: [usize; 35] = [
+static FIELDS: [usize; 35] = [
     0, 1, 1, 1, 1, 1, 1, 1, 1, 1, 2, 3, 2, 3, 1, 9, 10, 2, 1, 2, 3, 4, 5, 6, 7, 8, 9, 10, 11, 12,
     13, 14, 8, 8, 13,
 ];
@@ -52,13 +58,27 @@ pub struct Word {
     pub number: bool,
 }
 
+// What a line is, as far as it was read.
+#[derive(Clone, Copy)]
+pub enum Mode {
+    // No word yet.
+    Blank = 0,
+    Record = 1,
+    Raw = 2,
+    Comment = 3,
+    // A word is not understood.
+    Wrong = 4,
+    // It has more bytes of records than the longest event.
+    TooLong = 5,
+}
+
 // A line as far as it was read: the record that is being filled, the field that takes the next number (`NO_FIELD` for none), and how
 // many bytes of records stand in the buffer.
 #[derive(Clone, Copy)]
 pub struct Draft {
     pub values: [u64; 15],
     pub field: usize,
-    // 0 no word yet, 1 a record, 2 raw bytes, 3 a comment, 4 a word is not understood, 5 too long
+    // A `Mode`, by its number.
     pub mode: u8,
     pub staged: usize,
     pub word: Word,
@@ -72,73 +92,58 @@ pub struct Progress {
     pub taken: usize,
 }
 
-// Whether a byte stands between words: a space, a tab, a carriage return.
-fn is_gap(byte: u8) -> bool
-    ensures { result ≡ is_gap byte }
+// A number with one digit more, if the byte is a digit that it has room for in 64 bits.
+fn with_digit(value: u64, byte: u8) -> Option<u64>
+    ensures { result ≡ (if takes_digit value byte then Some (grown value byte) else None) }
 {
-    (byte == 32) | (byte == 9) | (byte == 13)
+    if !byte.is_ascii_digit() {
+        return None;
+    }
+    value.checked_mul(10)?.checked_add(u64::from(byte - b'0'))
 }
 
-// Whether a byte is a digit that a number has room for in 64 bits.
-fn takes_digit(value: u64, byte: u8) -> bool
-    ensures { result ≡ takes_digit value byte }
+// What a hexadecimal digit stands for.
+#[tactic(auto, unfolding(crate::specs::Composed::nibble))]
+fn nibble(byte: u8) -> Option<u8>
+    ensures stands { result ≡ nibble byte }
+    ensures within { IfSome result (λ n. n ≤ 15) }
 {
-    (48 <= byte) & (byte <= 57) & ((value < TENTH) | ((value == TENTH) & (byte <= 53)))
-}
-
-// A number with one digit more; 0 where it takes none.
-fn grown(value: u64, byte: u8) -> u64
-    ensures { result ≡ grown value byte }
-{
-    if takes_digit(value, byte) {
-        value * 10 + (byte as u64 - 48)
-    } else {
-        0
+    match byte {
+        b'0'..=b'9' => Some(byte - b'0'),
+        b'a'..=b'f' => Some(byte - b'a' + 10),
+        b'A'..=b'F' => Some(byte - b'A' + 10),
+        _ => None,
     }
 }
 
-// The next size of a word.
-fn longer(size: usize) -> usize
-    ensures { result ≡ longer size }
-{
-    if 16 < size { 17 } else { size + 1 }
-}
-
-// A text with a byte at a place, where it has that place.
-fn stored(text: [u8; 16], at: usize, byte: u8) -> [u8; 16]
-    ensures { result ≡ set text at byte }
-{
-    if 15 < at {
-        return text;
+impl Word {
+    // The word with one byte more.
+    fn push(self, byte: u8) -> Word
+        ensures { result ≡ pushed self byte }
+    {
+        let mut text = self.text;
+        if self.size < 16 {
+            text[self.size] = byte;
+        }
+        let grown = with_digit(self.value, byte);
+        Word {
+            text,
+            size: self.size.min(16) + 1,
+            value: grown.unwrap_or(0),
+            number: self.number && grown.is_some(),
+        }
     }
-    let mut next = text;
-    next[at] = byte;
-    next
-}
 
-// No word yet.
-fn empty_word() -> Word
-    ensures { result ≡ empty_word }
-{
-    Word {
-        text: [32; 16],
-        size: 0,
-        value: 0,
-        number: true,
-    }
-}
-
-// A word with one byte more.
-fn push(w: Word, byte: u8) -> Word
-    ensures { result ≡ pushed w byte }
-{
-    let text = w.text;
-    let next = stored(text, w.size, byte);
-    Word {
-        text: next,
-        size: longer(w.size),
-        value: grown(w.value, byte),
-        number: w.number & takes_digit(w.value, byte),
+    // The byte that it is, if it is two hexadecimal digits.
+    #[tactic(auto, unfolding(crate::specs::Composed::hex_value))]
+    fn hex_value(self) -> Option<u8>
+        ensures { result ≡ hex_value self }
+    {
+        if self.size != 2 {
+            return None;
+        }
+        let [high, low, ..] = self.text;
+        Some(nibble(high)? * 16 + nibble(low)?)
     }
 }
 
@@ -147,362 +152,10 @@ fn added(field: usize, value: u64, n: u64) -> u64
     ensures { result ≡ added field value n }
 {
     if is_set(field) {
-        add((value % 65536) as u16, (n % 256) as u8) as u64
+        u64::from(add((value % 65536) as u16, (n % 256) as u8))
     } else {
         n
     }
-}
-
-// Which field takes the next number: a set takes more of them.
-fn next_field(field: usize) -> usize
-    ensures { result ≡ next_field field }
-{
-    if is_set(field) { field } else { NO_FIELD }
-}
-
-// The line is not understood at this word.
-fn wrong(d: Draft) -> Draft
-    ensures { result ≡ wrong d }
-{
-    let mut next = d;
-    next.mode = 4;
-    next
-}
-
-// The line has more bytes of records than the longest event.
-fn too_long(d: Draft) -> Draft
-    ensures { result ≡ too_long d }
-{
-    let mut next = d;
-    next.mode = 5;
-    next
-}
-
-// A number goes into the field that takes it.
-fn put(d: Draft, n: u64) -> Draft
-    ensures { result ≡ put d n }
-{
-    let field = d.field;
-    if 14 < field {
-        return wrong(d);
-    }
-    if LIMITS[field] < n {
-        return wrong(d);
-    }
-    let mut values = d.values;
-    values[field] = added(field, values[field], n);
-    Draft {
-        values,
-        field: next_field(field),
-        mode: d.mode,
-        staged: d.staged,
-        word: empty_word(),
-        ended: d.ended,
-    }
-}
-
-// A new record of a kind.
-fn begun(d: Draft, kind: usize) -> Draft
-    requires { kind ≤ last_kind }
-    ensures { result ≡ begun d kind }
-{
-    if d.mode == 5 {
-        return d;
-    }
-    let mut values = [0u64; 15];
-    values[0] = kind as u64;
-    Draft {
-        values,
-        field: FIELDS[kind],
-        mode: 1,
-        staged: d.staged,
-        word: empty_word(),
-        ended: d.ended,
-    }
-}
-
-// A field of the record that is being filled is named.
-fn chosen(d: Draft, word: usize) -> Draft
-    requires { word ≤ last_field }
-    ensures { result ≡ chosen d word }
-{
-    if d.mode != 1 {
-        return wrong(d);
-    }
-    let values = d.values;
-    Draft {
-        values,
-        field: FIELDS[word],
-        mode: 1,
-        staged: d.staged,
-        word: empty_word(),
-        ended: d.ended,
-    }
-}
-
-// Bytes follow.
-fn raw_begun(d: Draft) -> Draft
-    ensures { result ≡ raw_begun d }
-{
-    let values = d.values;
-    Draft {
-        values,
-        field: NO_FIELD,
-        mode: 2,
-        staged: d.staged,
-        word: empty_word(),
-        ended: d.ended,
-    }
-}
-
-// What a hexadecimal digit stands for; 16 for any other byte.
-fn nibble(byte: u8) -> u8
-    ensures { result ≡ nibble byte }
-{
-    if (48 <= byte) & (byte <= 57) {
-        return byte - 48;
-    }
-    if (97 <= byte) & (byte <= 102) {
-        return byte - 87;
-    }
-    if (65 <= byte) & (byte <= 70) {
-        return byte - 55;
-    }
-    16
-}
-
-// The record that is being filled is written behind those that stand in the buffer.
-fn stage(d: Draft, out: &mut [u8]) -> Draft
-    ensures { made result out.new ≡ stage (made d out.old) }
-{
-    if d.mode != 1 {
-        return d;
-    }
-    let at = d.staged;
-    let values = d.values;
-    let record = record_from(values);
-    if record.write(out, at) {
-        let mut next = d;
-        next.staged = at + 32;
-        return next;
-    }
-    too_long(d)
-}
-
-// The byte of a word of two hexadecimal digits; 256 for any other word.
-fn hex_value(w: Word) -> usize
-    ensures { result ≡ hex_value w }
-{
-    let text = w.text;
-    let high = nibble(text[0]);
-    let low = nibble(text[1]);
-    if (w.size == 2) & (high <= 15) & (low <= 15) {
-        high as usize * 16 + low as usize
-    } else {
-        256
-    }
-}
-
-// One byte more stands in the buffer, and no word yet follows it.
-fn appended(d: Draft) -> Draft
-    requires { d.staged + 1 < 2 ^ 64 }
-    ensures { result ≡ appended d }
-{
-    let values = d.values;
-    Draft {
-        values,
-        field: d.field,
-        mode: d.mode,
-        staged: d.staged + 1,
-        word: empty_word(),
-        ended: d.ended,
-    }
-}
-
-// A word of two hexadecimal digits is a byte behind those that stand in the buffer, where a record has room for it.
-fn hex(d: Draft, out: &mut [u8]) -> Draft
-    ensures { made result out.new ≡ hex (made d out.old) }
-{
-    let w = d.word;
-    let at = d.staged;
-    let value = hex_value(w);
-    if !((value <= 255) & (at <= 31)) {
-        return wrong(d);
-    }
-    if out.len() <= at {
-        return too_long(d);
-    }
-    out[at] = value as u8;
-    appended(d)
-}
-
-// Whether a bearer may follow on this line: it is a request's.
-fn takes_bearer(d: Draft) -> bool
-    ensures { result ≡ takes_bearer d }
-{
-    let values = d.values;
-    (1 <= d.staged) | (values[0] == 1)
-}
-
-// Whether a kind's word begins a record here: it is the line's first, or a bearer of the line's request.
-fn may_begin(d: Draft, word: usize) -> bool
-    ensures { result ≡ may_begin d word }
-{
-    (d.mode == 0) | ((d.mode == 1) & (word == 16) & takes_bearer(d))
-}
-
-// What a word of the table does.
-fn understood(d: Draft, word: usize, out: &mut [u8]) -> Draft
-    ensures { made result out.new ≡ understood (made d out.old) word }
-{
-    if word <= LAST_KIND {
-        if !may_begin(d, word) {
-            return wrong(d);
-        }
-        return begun(stage(d, out), word);
-    }
-    if word <= LAST_FIELD {
-        return chosen(d, word);
-    }
-    if word == ABSENT {
-        return put(d, 65535);
-    }
-    if (word == RAW) & (d.mode == 0) {
-        return raw_begun(d);
-    }
-    wrong(d)
-}
-
-// A word has ended.
-fn settle(d: Draft, out: &mut [u8]) -> Draft
-    ensures { made result out.new ≡ settle (made d out.old) }
-{
-    let w = d.word;
-    if w.size == 0 {
-        return d;
-    }
-    if d.mode == 2 {
-        return hex(d, out);
-    }
-    if w.number {
-        return put(d, w.value);
-    }
-    let text = w.text;
-    understood(d, place_of(text), out)
-}
-
-// Whether the records of a line are a request that has no count, and its bearers.
-fn lacks_count(d: Draft, out: &[u8]) -> bool
-    ensures { result ≡ lacks_count d out.now }
-{
-    if out.len() < 64 {
-        return false;
-    }
-    (d.mode == 1)
-        & (64 <= d.staged)
-        & (out[0] == 1)
-        & (out[12] == 0)
-        & (out[13] == 0)
-        & (out[14] == 0)
-        & (out[15] == 0)
-}
-
-// A request without a count gets the number of its line's bearers.
-fn counted(d: Draft, out: &mut [u8]) -> Draft
-    ensures { made result out.new ≡ counted (made d out.old) }
-{
-    if !lacks_count(d, out) {
-        return d;
-    }
-    let following = d.staged / 32 - 1;
-    out[12] = (following % 256) as u8;
-    out[13] = (following / 256 % 256) as u8;
-    d
-}
-
-// The words of a line have ended.
-fn close(d: Draft, out: &mut [u8]) -> Draft
-    ensures { made result out.new ≡ close (made d out.old) }
-{
-    if 2 < d.mode {
-        return d;
-    }
-    let settled = settle(d, out);
-    let staged = stage(settled, out);
-    counted(staged, out)
-}
-
-// What follows is a comment.
-fn commented(d: Draft) -> Draft
-    ensures { result ≡ commented d }
-{
-    if 2 < d.mode {
-        return d;
-    }
-    let mut next = d;
-    next.mode = 3;
-    next
-}
-
-fn finished(d: Draft) -> Draft
-    ensures { result ≡ finished d }
-{
-    let mut next = d;
-    next.ended = true;
-    next
-}
-
-fn with_word(d: Draft, w: Word) -> Draft
-    ensures { result ≡ with_word d w }
-{
-    let values = d.values;
-    let word = w;
-    Draft {
-        values,
-        field: d.field,
-        mode: d.mode,
-        staged: d.staged,
-        word,
-        ended: d.ended,
-    }
-}
-
-fn is_pair(d: Draft) -> bool
-    ensures { result ≡ is_pair d }
-{
-    let w = d.word;
-    (d.mode == 2) & (w.size == 2)
-}
-
-// A byte of a word. Two digits are a word where bytes are written.
-fn typed(d: Draft, byte: u8, out: &mut [u8]) -> Draft
-    ensures { made result out.new ≡ typed (made d out.old) byte }
-{
-    let w = d.word;
-    let next = with_word(d, push(w, byte));
-    if is_pair(next) {
-        return hex(next, out);
-    }
-    next
-}
-
-// One byte of the text.
-fn step(d: Draft, byte: u8, out: &mut [u8]) -> Draft
-    ensures { made result out.new ≡ step (made d out.old) byte }
-{
-    if byte == 10 {
-        return finished(close(d, out));
-    }
-    if 2 < d.mode {
-        return d;
-    }
-    if byte == 35 {
-        return commented(close(d, out));
-    }
-    if is_gap(byte) {
-        return settle(d, out);
-    }
-    typed(d, byte, out)
 }
 
 impl Draft {
@@ -513,23 +166,281 @@ impl Draft {
         Draft {
             values: [0; 15],
             field: NO_FIELD,
-            mode: 0,
+            mode: Mode::Blank as u8,
             staged: 0,
-            word: empty_word(),
+            word: EMPTY,
             ended: false,
         }
     }
 
     // Reads on in a line, to its end or to the end of the bytes. Its records stand at the front of the buffer.
     pub fn read(self, bytes: &[u8], out: &mut [u8]) -> Progress
-        ensures { (made result.draft out.new ≡ read_from bytes.now (made self out.old)) × (result.taken ≡ taken_from bytes.now (made self out.old)) }
+        ensures read { (made result.draft out.new ≡ read_from bytes.now (made self out.old)) × (result.taken ≡ taken_from bytes.now (made self out.old)) }
+        ensures within { result.taken ≤ length bytes.now }
+        ensures onward { self.ended ≡ false → 0 < length bytes.now → 0 < result.taken }
     {
         let mut draft = self;
-        let mut taken: usize = 0;
-        while (taken < bytes.len()) & !draft.ended {
-            draft = step(draft, bytes[taken], out);
-            taken += 1;
+        for (taken, byte) in bytes.iter().enumerate() {
+            if draft.ended {
+                return Progress { draft, taken };
+            }
+            draft = draft.step(*byte, out);
         }
-        Progress { draft, taken }
+        Progress {
+            draft,
+            taken: bytes.len(),
+        }
+    }
+
+    // One byte of the text.
+    #[tactic(auto, unfolding(crate::specs::Composed::step))]
+    fn step(self, byte: u8, out: &mut [u8]) -> Draft
+        ensures { made result out.new ≡ step (made self out.old) byte }
+    {
+        match byte {
+            b'\n' => Draft {
+                ended: true,
+                ..self.close(out)
+            },
+            _ if self.is_over() => self,
+            b'#' => self.close(out).commented(),
+            b' ' | b'\t' | b'\r' => self.settle(out),
+            _ => self.typed(byte, out),
+        }
+    }
+
+    // Whether no more words of the line are read.
+    fn is_over(self) -> bool
+        ensures { result ≡ ltb 2 self.mode }
+    {
+        self.mode > Mode::Raw as u8
+    }
+
+    // The words of a line have ended.
+    #[tactic(auto, unfolding(crate::specs::Composed::close))]
+    fn close(self, out: &mut [u8]) -> Draft
+        ensures { made result out.new ≡ close (made self out.old) }
+    {
+        if self.is_over() {
+            return self;
+        }
+        self.settle(out).stage(out).counted(out)
+    }
+
+    // What follows is a comment.
+    fn commented(self) -> Draft
+        ensures { result ≡ commented self }
+    {
+        if self.is_over() {
+            return self;
+        }
+        self.in_mode(Mode::Comment as u8)
+    }
+
+    // A byte of a word. Two digits are a word where bytes are written.
+    #[tactic(auto, unfolding(crate::specs::Composed::typed))]
+    fn typed(self, byte: u8, out: &mut [u8]) -> Draft
+        ensures { made result out.new ≡ typed (made self out.old) byte }
+    {
+        let next = Draft {
+            word: self.word.push(byte),
+            ..self
+        };
+        if next.mode == Mode::Raw as u8 && next.word.size == 2 {
+            return next.hex(out);
+        }
+        next
+    }
+
+    // A word has ended.
+    #[tactic(auto, unfolding(crate::specs::Composed::settle))]
+    fn settle(self, out: &mut [u8]) -> Draft
+        ensures { made result out.new ≡ settle (made self out.old) }
+    {
+        let word = self.word;
+        if word.size == 0 {
+            return self;
+        }
+        if self.mode == Mode::Raw as u8 {
+            return self.hex(out);
+        }
+        if word.number {
+            return self.put(word.value);
+        }
+        match place_of(word.text) {
+            Some(place) => self.understood(place, out),
+            None => self.wrong(),
+        }
+    }
+
+    // What a word of the table does.
+    #[tactic(auto, unfolding(crate::specs::Composed::understood))]
+    fn understood(self, word: usize, out: &mut [u8]) -> Draft
+        ensures { made result out.new ≡ understood (made self out.old) word }
+    {
+        match word {
+            ..=LAST_KIND if !self.may_begin(word) => self.wrong(),
+            ..=LAST_KIND => self.stage(out).begun(word),
+            ..=LAST_FIELD => self.chosen(word),
+            ABSENT => self.put(65535),
+            RAW if self.mode == Mode::Blank as u8 => Draft {
+                field: NO_FIELD,
+                mode: Mode::Raw as u8,
+                word: EMPTY,
+                ..self
+            },
+            _ => self.wrong(),
+        }
+    }
+
+    // Whether a kind's word begins a record here: it is the line's first, or a bearer of the line's request.
+    fn may_begin(self, word: usize) -> bool
+        ensures { result ≡ may_begin self word }
+    {
+        self.mode == Mode::Blank as u8
+            || self.mode == Mode::Record as u8
+                && word == Kind::Bearer as usize
+                && self.takes_bearer()
+    }
+
+    // Whether a bearer may follow on this line: it is a request's.
+    fn takes_bearer(self) -> bool
+        ensures { result ≡ takes_bearer self }
+    {
+        1 <= self.staged || self.values[0] == Kind::Request as u64
+    }
+
+    // A new record of a kind.
+    #[tactic(auto, unfolding(crate::specs::Composed::begun))]
+    fn begun(self, kind: usize) -> Draft
+        requires { kind ≤ last_kind }
+        ensures { result ≡ begun self kind }
+    {
+        if self.mode == Mode::TooLong as u8 {
+            return self;
+        }
+        let mut values = [0; 15];
+        values[0] = kind as u64;
+        Draft {
+            values,
+            field: FIELDS[kind],
+            mode: Mode::Record as u8,
+            word: EMPTY,
+            ..self
+        }
+    }
+
+    // A field of the record that is being filled is named.
+    #[tactic(auto, unfolding(crate::specs::Composed::chosen))]
+    fn chosen(self, word: usize) -> Draft
+        requires { word ≤ last_field }
+        ensures { result ≡ chosen self word }
+    {
+        if self.mode != Mode::Record as u8 {
+            return self.wrong();
+        }
+        Draft {
+            field: FIELDS[word],
+            word: EMPTY,
+            ..self
+        }
+    }
+
+    // A number goes into the field that takes it.
+    #[tactic(auto, unfolding(crate::specs::Composed::put))]
+    fn put(self, n: u64) -> Draft
+        ensures { result ≡ put self n }
+    {
+        let field = self.field;
+        if LIMITS.get(field).is_none_or(|limit| *limit < n) {
+            return self.wrong();
+        }
+        let mut values = self.values;
+        values[field] = added(field, values[field], n);
+        Draft {
+            values,
+            field: if is_set(field) { field } else { NO_FIELD },
+            word: EMPTY,
+            ..self
+        }
+    }
+
+    // A word of two hexadecimal digits is a byte behind those that stand in the buffer, where a record has room for it.
+    #[tactic(auto, unfolding(crate::specs::Composed::hex))]
+    fn hex(self, out: &mut [u8]) -> Draft
+        ensures { made result out.new ≡ hex (made self out.old) }
+    {
+        let at = self.staged;
+        let Some(byte) = self.word.hex_value() else {
+            return self.wrong();
+        };
+        if 31 < at {
+            return self.wrong();
+        }
+        if out.len() <= at {
+            return self.in_mode(Mode::TooLong as u8);
+        }
+        out[at] = byte;
+        Draft {
+            staged: at + 1,
+            word: EMPTY,
+            ..self
+        }
+    }
+
+    // The record that is being filled is written behind those that stand in the buffer.
+    #[tactic(auto, unfolding(crate::specs::Composed::stage))]
+    fn stage(self, out: &mut [u8]) -> Draft
+        ensures { made result out.new ≡ stage (made self out.old) }
+    {
+        if self.mode != Mode::Record as u8 {
+            return self;
+        }
+        let at = self.staged;
+        if record_from(self.values).write(out, at) {
+            return Draft {
+                staged: at + 32,
+                ..self
+            };
+        }
+        self.in_mode(Mode::TooLong as u8)
+    }
+
+    // A request without a count gets the number of its line's bearers.
+    #[tactic(auto, unfolding(crate::specs::Composed::counted))]
+    fn counted(self, out: &mut [u8]) -> Draft
+        ensures { made result out.new ≡ counted (made self out.old) }
+    {
+        if !self.lacks_count(out) {
+            return self;
+        }
+        let following = self.staged / 32 - 1;
+        out[12] = (following % 256) as u8;
+        out[13] = (following / 256 % 256) as u8;
+        self
+    }
+
+    // Whether the records of a line are a request that has no count, and its bearers.
+    fn lacks_count(self, out: &[u8]) -> bool
+        ensures { result ≡ lacks_count self out.now }
+    {
+        64 <= out.len()
+            && self.mode == Mode::Record as u8
+            && 64 <= self.staged
+            && out[0] == Kind::Request as u8
+            && out[12..16] == [0; 4]
+    }
+
+    // The line is not understood at this word.
+    fn wrong(self) -> Draft
+        ensures { result ≡ wrong self }
+    {
+        self.in_mode(Mode::Wrong as u8)
+    }
+
+    fn in_mode(self, mode: u8) -> Draft
+        ensures { result ≡ in_mode mode self }
+    {
+        Draft { mode, ..self }
     }
 }

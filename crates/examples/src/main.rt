@@ -2,10 +2,10 @@
 // lines in the third.
 #![tactic(auto)]
 
-ghost use Rattle.std.specs.Prelude.{◌≡◌, ◌≤◌, length};
-ghost use Rattle.words.specs.Words.{is_same};
+ghost use Rattle.std.specs.Prelude.{◌+◌, ◌^◌, ◌≤◌, ◌<◌, length};
 
-use composing::Draft;
+use buffers::read_full;
+use composing::{Draft, Mode};
 use lines::Run;
 use std::env::{Env, FillError};
 use std::fs::File;
@@ -21,22 +21,18 @@ fn arg_count(rt: &HostRuntime) -> usize {
     usize::MAX
 }
 
-// Puts an argument at the start of the buffer, and answers how many bytes it has: none if it is missing or longer than the buffer.
-fn arg(rt: &HostRuntime, place: usize, buffer: &mut [u8]) -> usize
-    ensures { result ≤ length buffer.new }
-{
-    match rt.arg(place, buffer) {
-        Ok(size) => size,
-        Err(_) => 0,
-    }
+// Puts an argument at the start of the buffer, and answers its bytes: none if it is missing or longer than the buffer.
+fn arg<'a>(rt: &HostRuntime, place: usize, buffer: &'a mut [u8]) -> &'a [u8] {
+    let size = rt.arg(place, buffer).unwrap_or(0);
+    &buffer[..size]
 }
 
 // Opens a file for reading.
 fn open(rt: &HostRuntime, path: &[u8]) -> io::Result<File> {
-    match str::from_utf8(path) {
-        Ok(name) => fs::open(rt, name),
-        Err(_) => Err(io::Error::from(io::ErrorKind::InvalidInput)),
-    }
+    let Ok(name) = str::from_utf8(path) else {
+        return Err(io::Error::from(io::ErrorKind::InvalidInput));
+    };
+    fs::open(rt, name)
 }
 
 // Tells which file cannot be opened, and why.
@@ -47,55 +43,23 @@ fn fail(rt: &HostRuntime, path: &[u8], why: io::Error) {
     let _ = rt.eprint("\n");
 }
 
-// Reads until the buffer is full, the input ends or a read fails, and answers how many bytes there are.
-fn read_full<R: io::Read>(input: &mut R, buffer: &mut [u8]) -> usize
-    ensures { result ≤ length buffer.new }
-{
-    let mut held = 0;
-    while held < buffer.len() {
-        match input.read(&mut buffer[held..]) {
-            Ok(0) | Err(_) => return held,
-            Ok(count) => held += count,
-        }
-    }
-    held
-}
-
-// Reads a file, as far as the buffer holds it, and answers how many bytes there are.
-fn read_file(rt: &HostRuntime, path: &[u8], buffer: &mut [u8]) -> usize
-    ensures { result ≤ length buffer.new }
-{
-    match open(rt, path) {
+// Reads a file, as far as the buffer holds it, and answers its bytes.
+fn read_file<'a>(rt: &HostRuntime, path: &[u8], buffer: &'a mut [u8]) -> &'a [u8] {
+    let held = match open(rt, path) {
         Ok(mut file) => read_full(&mut file, buffer),
         Err(why) => {
             fail(rt, path, why);
             0
         }
-    }
-}
-
-// Whether two texts are the same.
-fn same(a: &[u8], b: &[u8]) -> bool
-    ensures { result ≡ is_same a.now b.now }
-{
-    if a.len() != b.len() {
-        return false;
-    }
-    for i in 0..a.len() {
-        if a[i] != b[i] {
-            return false;
-        }
-    }
-    true
+    };
+    &buffer[..held]
 }
 
 // Writes the lines that events give on a fresh station, as far as the buffer holds them, and answers how many bytes there are.
 fn write_lines(events: &[u8], buffer: &mut [u8]) -> usize
     ensures { result ≤ length buffer.new }
 {
-    let run = Run::new();
-    let p = run.answer(events, true, buffer);
-    p.written
+    Run::new().answer(events, true, buffer).written
 }
 
 // Writes the records that a text gives, one line after the other, and answers how many bytes there are: none if a line is not
@@ -103,42 +67,34 @@ fn write_lines(events: &[u8], buffer: &mut [u8]) -> usize
 fn write_records(text: &[u8], buffer: &mut [u8]) -> usize
     ensures { result ≤ length buffer.new }
 {
-    let mut written: usize = 0;
-    let mut taken: usize = 0;
-    while taken < text.len() {
-        let fresh = Draft::new();
-        let p = fresh.read(&text[taken..], &mut buffer[written..]);
+    let mut written = 0;
+    let mut rest = text;
+    while !rest.is_empty() {
+        let p = Draft::new().read(rest, &mut buffer[written..]);
         let line = p.draft;
         let room = buffer.len() - written;
-        if !line.ended | (3 < line.mode) | (room < line.staged) {
+        if !line.ended || line.mode >= Mode::Wrong as u8 || room < line.staged {
             return 0;
         }
         written += line.staged;
-        taken += p.taken;
+        rest = &rest[p.taken..];
     }
     written
 }
 
-// Writes what a file gives: the records of its words, or the lines of its records.
-fn write(is_text: bool, file: &[u8], buffer: &mut [u8]) -> usize
-    ensures { result ≤ length buffer.new }
+// Tells whether a file gives another, by a function that writes what one gives.
+fn check<F: FnOnce(&[u8], &mut [u8]) -> usize>(rt: &HostRuntime, give: F, from: &[u8], to: &[u8])
+    requires { F.IsAlwaysCallable give }
 {
-    if is_text {
-        return write_records(file, buffer);
-    }
-    write_lines(file, buffer)
-}
-
-// Tells whether a file gives another.
-fn check(rt: &HostRuntime, is_text: bool, from: &[u8], to: &[u8]) {
     let mut input = [0u8; 65536];
     let mut output = [0u8; 65536];
     let mut expected = [0u8; 65536];
-    let held = read_file(rt, from, &mut input);
+    let file = read_file(rt, from, &mut input);
     let wanted = read_file(rt, to, &mut expected);
-    let written = write(is_text, &input[..held], &mut output);
+    let written = give(file, &mut output);
+    let is_given = output.get(..written).is_some_and(|given| given == wanted);
     let _ = rt.write_all(from);
-    if same(&output[..written], &expected[..wanted]) & (0 < wanted) {
+    if is_given && !wanted.is_empty() {
         let _ = rt.print(" gives ");
     } else {
         let _ = rt.print(" does not give ");
@@ -147,20 +103,22 @@ fn check(rt: &HostRuntime, is_text: bool, from: &[u8], to: &[u8]) {
     let _ = rt.print("\n");
 }
 
-// The example that three arguments name.
-fn check_at(rt: &HostRuntime, first: usize, second: usize, third: usize) {
+// The example that three arguments name, from one on.
+fn check_at(rt: &HostRuntime, first: usize)
+    requires { first + 2 < 2 ^ 64 }
+{
     let mut text = [0u8; 4096];
     let mut records = [0u8; 4096];
     let mut lines = [0u8; 4096];
-    let n = arg(rt, first, &mut text);
-    let m = arg(rt, second, &mut records);
-    let k = arg(rt, third, &mut lines);
-    check(rt, true, &text[..n], &records[..m]);
-    check(rt, false, &records[..m], &lines[..k]);
+    let text = arg(rt, first, &mut text);
+    let records = arg(rt, first + 1, &mut records);
+    let lines = arg(rt, first + 2, &mut lines);
+    check(rt, write_records, text, records);
+    check(rt, write_lines, records, lines);
 }
 
 fn main(rt: HostRuntime) {
     for i in 0..arg_count(&rt) / 3 {
-        check_at(&rt, 3 * i + 1, 3 * i + 2, 3 * i + 3);
+        check_at(&rt, 3 * i + 1);
     }
 }

@@ -1,164 +1,174 @@
 -- What the fault of a record says of its fields.
-use Prim.Native.Nat.{ℕ, zero, suc, ◌+◌, ◌≤◌, ◌<◌}
+use Prim.Native.Nat.{ℕ, suc, ◌+◌, ◌≤◌, ◌<◌}
 use mathlib.Core.Path.{◌≡◌, refl, ◌∙◌, sym, ap, ap₂}
-use mathlib.Core.Bool.{Bool, true, false, not, ◌&&◌, and-true, and-false, not-not, true≢false}
+use mathlib.Core.Bool.{Bool, true, false, cond, not, ◌&&◌, and-false, and-true, not-not, true≢false}
 use mathlib.Core.List.{List, [], ◌∷◌}
-use borrow.Author.Tests.{eq-eqb, ne_eqb, eqb-true, eqb-false, ltb-true, ltb-false}
+use mathlib.Core.Logic.{◌⊎◌, inl, inr, ⊎_elim}
+use borrow.Author.Tests.{lt-ltb, not-true}
 use native.Mathlib.Omega.{arith}
-use store.Seg.{eqb_same}
 use lib.Dec.{ltb, eqb}
-use lib.ListN.{length, get_or, drop}
-use Rattle.laws.proofs.Tests.{by_cases, both_true}
+use lib.ListN.{length, get_or}
+use Rattle.std.specs.Option.{option_or}
+use Rattle.std.specs.List.{list_all, position, position_or_len, zip}
+use Rattle.std.proofs.Common.{Option, Some, None, is_none, option_map}
+use Rattle.std.proofs.lemmas.List.Folds.{list_all_at}
+use Rattle.std.proofs.lemmas.List.Quantifiers.{position-Some}
+use Rattle.std.proofs.lemmas.Option.{same_Some, none-some}
+use Rattle.std.proofs.lemmas.Slice.Zip.{get_or-zip, length-zip}
+use Rattle.laws.proofs.Tests.{by_cases, both_true, same_leb}
 use Rattle.records.specs.declared.Record.{Record}
-use Rattle.fields.specs.Fields.{limit_of, sort_of, no_event, fits, all_fit, values_of, offsets, is_out, is_stray, first_from, fault_in, fault_of, is_counted, well_formed}
-use Rattle.fields.proofs.Agreeing.{only_zero, event_formed, no_event_malformed}
-use Rattle.fields.proofs.Searching.{found_here, found_later, found_nowhere}
+use Rattle.fields.specs.declared.Fault.{Fault}
+use Rattle.fields.specs.declared.Sort.TheVariants.{NoEvent}
+use Rattle.fields.specs.declared.kinds.Limit.{Limit}
+use Rattle.fields.specs.declared.kinds.Limit.TheVariants.{Unused}
+use Rattle.fields.specs.Fields.{same_sort, same_limit, fits, limits_of, sort_of, all_fit, values_of, offsets, is_out, is_stray, lowest, about_field, fault_in, fault_of, is_counted, well_formed}
+use Rattle.fields.proofs.Agreeing.{only_zero, limit_true, event_formed, no_event_malformed}
 
 -- ---- the search
 
--- a field is the first from i on that passes a test, or the end if none does
-record First (test : ℕ → ℕ → Bool) (limit : ℕ → ℕ) (values : List ℕ) (i field : ℕ) : Type 0 where
-  from : i ≤ field
-  within : field ≤ length values
-  others : (j : ℕ) → i ≤ j → j < field → test (limit j) (get_or values j 0) ≡ false
-  passes : field < length values → test (limit field) (get_or values field 0) ≡ true
+-- a search that finds nothing is one in which the test fails throughout
+fails : {A : Type 0} (test : A → Bool) (xs : List A) → not (ltb (position_or_len test xs) (length xs)) ≡ list_all (λ x. not (test x)) xs
+fails test [] = refl
+fails test (x ∷ xs) =
+    let n = position_or_len test xs in
+    by_cases (not (test x))
+    (λ t. rw (t, same_leb (suc (1 + n)) (suc (length xs)) (suc n) (length xs) (λ h. omega arith) (λ h. omega arith)) (fails test xs))
+    (λ t. let some = lt-ltb 0 (suc (length xs)) (omega arith) in rw (t, some))
 
-module _ (test : ℕ → ℕ → Bool) (limit : ℕ → ℕ) (values : List ℕ) where
-  -- What the search finds is that, so many fields before the end.
-  first_from_lem : (left i : ℕ) → i + left ≡ length values → First test limit values i (first_from test limit i (drop i values))
-  first_from_lem zero i last =
-      rw (found_nowhere test limit values i (omega arith))
-      (record { from = omega arith; within = omega arith; others = λ j low high. absurd (omega arith); passes = λ inside. absurd (omega arith) })
-  first_from_lem (suc left) i more =
-      by_cases (test (limit i) (get_or values i 0))
-      (λ t.
-      rw (found_here test limit values i (omega arith) t)
-      (record { from = omega arith; within = omega arith; others = λ j low high. absurd (omega arith); passes = λ _. t }))
-      (λ t. let next = first_from_lem left (i + 1) (omega arith) in
-      rw (found_later test limit values i (omega arith) t)
-      (record {
-        from = omega (arith, next.from);
-        within = next.within;
-        others = λ j low high. by_cases (eqb j i) (λ u. rw (eqb-true j i u) t) (λ u. next.others j (omega (arith, eqb-false j i u)) high);
-        passes = next.passes;
-      }))
+nothing : {A : Type 0} (b : Bool) (x : A) → is_none (cond b (Some x) None) ≡ not b
+nothing true x = refl
+nothing false x = refl
 
-  first : First test limit values 0 (first_from test limit 0 values)
-  first = first_from_lem (length values) 0 (omega arith)
+finds_none : {A : Type 0} (test : A → Bool) (xs : List A) → is_none (position test xs) ≡ list_all (λ x. not (test x)) xs
+finds_none test xs = nothing (ltb (position_or_len test xs) (length xs)) (position_or_len test xs) ∙ fails test xs
+
+-- two tests hold throughout where both hold throughout
+both_all : {A : Type 0} (p q : A → Bool) (xs : List A) → list_all (λ x. p x && q x) xs ≡ (list_all p xs && list_all q xs)
+both_all p q [] = refl
+both_all p q (x ∷ xs) = by_cases (p x) (λ t. by_cases (q x) (λ u. rw (t, u) (both_all p q xs)) (λ u. rw (t, u) (sym (and-false (list_all p xs))))) (λ t. rw t)
 
 -- ---- the fault
 
 -- an offset is that of a field that offends, and no lower field does
-pub record Named (offends : ℕ → ℕ → Bool) (limit : ℕ → ℕ) (values : List ℕ) (offset : ℕ) : Type 0 where
+pub record Named (offends : Limit → ℕ → Bool) (limits : List Limit) (values : List ℕ) (offset : ℕ) : Type 0 where
   pub field : ℕ
   pub inside : field < 14
   pub at : offset ≡ get_or offsets field 0
-  pub offending : offends (limit field) (get_or values field 0) ≡ true
-  pub lowest : (j : ℕ) → j < field → offends (limit j) (get_or values j 0) ≡ false
+  pub offending : offends (get_or limits field Unused) (get_or values field 0) ≡ true
+  pub lowest : (j : ℕ) → j < field → offends (get_or limits j Unused) (get_or values j 0) ≡ false
 
 -- A value fits exactly if it is neither out of range nor stray.
-fits_tests : (limit value : ℕ) → fits limit value ≡ (not (is_out limit value) && not (is_stray limit value))
+fits_tests : (limit : Limit) (value : ℕ) → fits limit value ≡ (not (is_out limit value) && not (is_stray limit value))
 fits_tests limit value =
-    by_cases (eqb limit 0)
-    (λ t. rw (eqb-true limit 0 t, not-not (eqb value 0)) (sym (only_zero value)))
+    by_cases (same_limit limit Unused)
+    (λ t. rw (limit_true limit Unused t, not-not (eqb value 0)) (sym (only_zero value)))
     (λ t. rw (t, and-true) (sym (not-not (fits limit value))))
 
-out_unfit : (limit value : ℕ) → is_out limit value ≡ true → fits limit value ≡ false
-out_unfit limit value t = fits_tests limit value ∙ ap (λ (b : Bool). not b && not (is_stray limit value)) t
-
-stray_unfit : (limit value : ℕ) → is_stray limit value ≡ true → fits limit value ≡ false
-stray_unfit limit value t = fits_tests limit value ∙ ap (λ (b : Bool). not (is_out limit value) && not b) t ∙ and-false (not (is_out limit value))
-
-fit : (limit value : ℕ) → is_out limit value ≡ false → is_stray limit value ≡ false → fits limit value ≡ true
-fit limit value t u = fits_tests limit value ∙ ap₂ (λ (a b : Bool). not a && not b) t u
-
 -- So all fit exactly if neither search finds one.
-fit_search : (limit : ℕ → ℕ) (k : ℕ) (vs : List ℕ) → all_fit limit k vs ≡ (eqb (first_from is_out limit k vs) (k + length vs) && eqb (first_from is_stray limit k vs) (k + length vs))
-unfolding first_from
-fit_search limit k [] = let same : k + 0 ≡ k = omega arith in rw (same, eqb_same k)
-fit_search limit k (v ∷ vs) =
-    let short : eqb k (k + suc (length vs)) ≡ false = ne_eqb k (k + suc (length vs)) (λ e. omega arith) in
-    let next : k + suc (length vs) ≡ suc k + length vs = omega arith in
-    by_cases (is_out (limit k) v)
-    (λ t. rw (t, out_unfit (limit k) v t, short))
-    (λ t.
-    by_cases (is_stray (limit k) v)
-    (λ u. rw (t, u, stray_unfit (limit k) v u, short, and-false))
-    (λ u. rw (t, u, fit (limit k) v t u, next) (fit_search limit (suc k) vs)))
+fit_search : (limits : List Limit) (values : List ℕ) → all_fit limits values ≡ (is_none (lowest is_out limits values) && is_none (lowest is_stray limits values))
+fit_search limits values =
+    let fields = zip limits values in
+    let out : Limit × ℕ → Bool = λ (field : Limit × ℕ). is_out field.0 field.1 in
+    let stray : Limit × ℕ → Bool = λ (field : Limit × ℕ). is_stray field.0 field.1 in
+    ap (λ (test : Limit × ℕ → Bool). list_all test fields) (λ i field. fits_tests field.0 field.1 i)
+    ∙ both_all (λ x. not (out x)) (λ x. not (stray x)) fields
+    ∙ ap₂ ◌&&◌ (sym (finds_none out fields)) (sym (finds_none stray fields))
 
-module _ (limit : ℕ → ℕ) (values : List ℕ) (fourteen : length values ≡ 14) where
-  abbrev out : ℕ
-  out = first_from is_out limit 0 values
+none_of : (out stray : Option ℕ) → is_none (option_or (option_map (about_field 11) out) (option_map (about_field 12) stray)) ≡ (is_none out && is_none stray)
+none_of (Some field) stray = refl
+none_of None (Some field) = refl
+none_of None None = refl
 
-  abbrev stray : ℕ
-  stray = first_from is_stray limit 0 values
+-- There is no fault exactly if all fields fit their limits.
+pub fit_exactly : (limits : List Limit) (values : List ℕ) → all_fit limits values ≡ is_none (fault_in limits values)
+fit_exactly limits values = fit_search limits values ∙ sym (none_of (lowest is_out limits values) (lowest is_stray limits values))
 
-  named : (offends : ℕ → ℕ → Bool) → first_from offends limit 0 values < 14 → Named offends limit values (get_or offsets (first_from offends limit 0 values) 0)
-  named offends inside =
-      let found = first offends limit values in
-      record {
-        field = first_from offends limit 0 values;
-        inside = inside;
-        at = refl;
-        offending = found.passes (omega arith);
-        lowest = λ j below. found.others j (omega arith) below;
-      }
+-- What holds of all fields holds of each.
+at_each : (test : Limit → ℕ → Bool) (limits : List Limit) (values : List ℕ) → list_all (λ (field : Limit × ℕ). test field.0 field.1) (zip limits values) ≡ true
+    → (j : ℕ) → j < length limits → j < length values → test (get_or limits j Unused) (get_or values j 0) ≡ true
+at_each test limits values t j there here =
+    by_cases (test (get_or limits j Unused) (get_or values j 0))
+    (λ u. u)
+    (λ u.
+    let inside : j < length (zip limits values) = rw length-zip (omega arith) in
+    absurd (true≢false (sym t ∙ list_all_at (λ (field : Limit × ℕ). test field.0 field.1) (zip limits values) j (Unused, 0) inside (rw (get_or-zip limits values j (Unused, 0) there here) u))))
 
-  -- Where nothing is found, the search came to the end.
-  ends : (offends : ℕ → ℕ → Bool) → ltb (first_from offends limit 0 values) 14 ≡ false → first_from offends limit 0 values ≡ 14
-  ends offends t = omega (arith, (first offends limit values).within, ltb-false (first_from offends limit 0 values) 14 t)
+pub each_fits : (limits : List Limit) (values : List ℕ) → all_fit limits values ≡ true → (j : ℕ) → j < length limits → j < length values → fits (get_or limits j Unused) (get_or values j 0) ≡ true
+each_fits = at_each fits
 
-  none : (offends : ℕ → ℕ → Bool) → ltb (first_from offends limit 0 values) 14 ≡ false → (j : ℕ) → j < 14 → offends (limit j) (get_or values j 0) ≡ false
-  none offends t j inside = (first offends limit values).others j (omega arith) (omega (arith, ends offends t))
+-- which of the two searches a fault is from
+from_search : (out stray : Option ℕ) (fault : Fault) → option_or (option_map (about_field 11) out) (option_map (about_field 12) stray) ≡ Some fault
+    → ((field : ℕ) × (out ≡ Some field) × (about_field 11 field ≡ fault)) ⊎ ((field : ℕ) × (out ≡ None) × (stray ≡ Some field) × (about_field 12 field ≡ fault))
+from_search (Some field) stray fault e = inl (field, refl, same_Some (about_field 11 field) fault e)
+from_search None (Some field) fault e = inr (field, refl, refl, same_Some (about_field 12 field) fault e)
+from_search None None fault e = absurd (none-some fault e)
 
-  -- Reply 11 names the lowest field that is out of range.
-  pub names_out : (fault_in limit values).reply ≡ 11 → Named is_out limit values (fault_in limit values).offset
-  names_out =
-      by_cases (ltb out 14)
-      (λ t. rw t (λ _. named is_out (ltb-true out 14 t)))
-      (λ t. by_cases (ltb stray 14) (λ u. rw (t, u) (λ is. absurd (omega arith))) (λ u. rw (t, u) (λ is. absurd (omega arith))))
+module _ (limits : List Limit) (values : List ℕ) (fault : Fault) (is : fault_in limits values ≡ Some fault) where
+  -- What is wrong with a field is 11 or 12.
+  pub field_listed : (11 ≤ fault.reply) × (fault.reply ≤ 12)
+  field_listed =
+      ⊎_elim
+      (λ found. (omega (arith, ap (λ (f : Fault). f.reply) found.2), omega (arith, ap (λ (f : Fault). f.reply) found.2)))
+      (λ found. (omega (arith, ap (λ (f : Fault). f.reply) found.3), omega (arith, ap (λ (f : Fault). f.reply) found.3)))
+      (from_search (lowest is_out limits values) (lowest is_stray limits values) fault is)
 
-  -- Reply 12 names the lowest unused field that is not zero, and no field is out of range then.
-  pub names_stray : (fault_in limit values).reply ≡ 12 → Named is_stray limit values (fault_in limit values).offset × ((j : ℕ) → j < 14 → is_out (limit j) (get_or values j 0) ≡ false)
-  names_stray =
-      by_cases (ltb out 14)
-      (λ t. rw t (λ is. absurd (omega arith)))
-      (λ t. by_cases (ltb stray 14) (λ u. rw (t, u) (λ _. (named is_stray (ltb-true stray 14 u), none is_out t))) (λ u. rw (t, u) (λ is. absurd (omega arith))))
+  module _ (same : length limits ≡ 14) (fourteen : length values ≡ 14) where
+    -- What a search finds is the lowest field that offends.
+    named : (offends : Limit → ℕ → Bool) (reply field : ℕ) → lowest offends limits values ≡ Some field → about_field reply field ≡ fault → Named offends limits values fault.offset
+    named offends reply field found about =
+        let first = position-Some (λ (f : Limit × ℕ). offends f.0 f.1) (zip limits values) field (Unused, 0) found in
+        let inside : field < 14 = omega (arith, first.0, length-zip limits values) in
+        let pair : (j : ℕ) → j < 14 → get_or (zip limits values) j (Unused, 0) ≡ (get_or limits j Unused, get_or values j 0) =
+        λ j h. get_or-zip limits values j (Unused, 0) (omega arith) (omega arith)
+        in
+        record {
+          field = field;
+          inside = inside;
+          at = ap (λ (f : Fault). f.offset) (sym about);
+          offending = rw (pair field inside) at first.1;
+          lowest = λ j below. rw (pair j (omega arith)) at (first.2 j below);
+        }
 
-  -- There is no fault exactly if all fields fit their limits.
-  pub fit_exactly : all_fit limit 0 values ≡ eqb (fault_in limit values).reply 0
-  fit_exactly =
-      fit_search limit 0 values
-      ∙ rw fourteen
-      (by_cases (ltb out 14)
-      (λ t. rw (t, ne_eqb out 14 (λ e. omega (arith, ltb-true out 14 t))))
-      (λ t.
-      by_cases (ltb stray 14)
-      (λ u. rw (t, u, ne_eqb stray 14 (λ e. omega (arith, ltb-true stray 14 u)), and-false))
-      (λ u. rw (t, u, eq-eqb out 14 (ends is_out t), eq-eqb stray 14 (ends is_stray u)))))
+    -- Reply 11 names the lowest field that is out of range.
+    pub names_out : fault.reply ≡ 11 → Named is_out limits values fault.offset
+    names_out eleven =
+        ⊎_elim
+        (λ found. named is_out 11 found.0 found.1 found.2)
+        (λ found. absurd (omega (arith, ap (λ (f : Fault). f.reply) found.3)))
+        (from_search (lowest is_out limits values) (lowest is_stray limits values) fault is)
+
+    -- Reply 12 names the lowest unused field that is not zero, and no field is out of range then.
+    pub names_stray : fault.reply ≡ 12 → Named is_stray limits values fault.offset × ((j : ℕ) → j < 14 → is_out (get_or limits j Unused) (get_or values j 0) ≡ false)
+    names_stray twelve =
+        ⊎_elim
+        (λ found. absurd (omega (arith, ap (λ (f : Fault). f.reply) found.2)))
+        (λ found.
+        let clean = sym (finds_none (λ (field : Limit × ℕ). is_out field.0 field.1) (zip limits values)) ∙ ap is_none found.1 in (
+          named is_stray 12 found.0 found.2 found.3,
+          λ j h. not-true (is_out (get_or limits j Unused) (get_or values j 0)) (at_each (λ limit value. not (is_out limit value)) limits values clean j (omega arith) (omega arith)),
+        ))
+        (from_search (lowest is_out limits values) (lowest is_stray limits values) fault is)
 
 -- ---- document 01
 
 -- An event is what document 01 calls malformed exactly if there is a fault in it or, of a request, its count is not 1 to 256.
-pub malformed_exactly : (e : Record) → well_formed e ≡ (eqb (fault_of e).reply 0 && is_counted e)
+pub malformed_exactly : (e : Record) → well_formed e ≡ (is_none (fault_of e) && is_counted e)
 malformed_exactly e =
-    by_cases (eqb (sort_of e.kind) no_event)
+    by_cases (same_sort (sort_of e.kind) NoEvent)
     (λ t. no_event_malformed e t ∙ rw t)
-    (λ t. event_formed e t ∙ rw (t, fit_exactly (limit_of e.kind) (values_of e) refl))
+    (λ t. event_formed e t ∙ rw (t, fit_exactly (limits_of e.kind) (values_of e)))
 
--- What is wrong with a field is 11 or 12, and with a kind 10.
-pub field_listed : (limit : ℕ → ℕ) (values : List ℕ) → eqb (fault_in limit values).reply 0 ≡ false → (11 ≤ (fault_in limit values).reply) × ((fault_in limit values).reply ≤ 12)
-field_listed limit values =
-    by_cases (ltb (first_from is_out limit 0 values) 14)
-    (λ t. rw t (λ _. (omega arith, omega arith)))
-    (λ t. by_cases (ltb (first_from is_stray limit 0 values) 14) (λ u. rw (t, u) (λ _. (omega arith, omega arith))) (λ u. rw (t, u) (λ none. absurd (true≢false none))))
-
-pub fault_listed : (e : Record) → eqb (fault_of e).reply 0 ≡ false → (10 ≤ (fault_of e).reply) × ((fault_of e).reply ≤ 12)
-fault_listed e =
-    by_cases (eqb (sort_of e.kind) no_event)
-    (λ t. rw t (λ _. (omega arith, omega arith)))
-    (λ t. rw t (λ some. let listed = field_listed (limit_of e.kind) (values_of e) some in (omega (arith, listed.0), listed.1)))
+-- What is wrong with an event is 11 or 12, and with a kind 10.
+pub fault_listed : (e : Record) (fault : Fault) → fault_of e ≡ Some fault → (10 ≤ fault.reply) × (fault.reply ≤ 12)
+fault_listed e fault =
+    by_cases (same_sort (sort_of e.kind) NoEvent)
+    (λ t. rw t (λ is. let reply = ap (λ (f : Fault). f.reply) (same_Some _ fault is) in (omega arith, omega arith)))
+    (λ t. rw t (λ is. let listed = field_listed (limits_of e.kind) (values_of e) fault is in (omega (arith, listed.0), listed.1)))
 
 -- An event that is well formed has none.
-pub formed_faultless : (e : Record) → well_formed e ≡ true → eqb (fault_of e).reply 0 ≡ true
-formed_faultless e formed = (both_true (eqb (fault_of e).reply 0) (is_counted e) (sym (malformed_exactly e) ∙ formed)).0
+absent : {A : Type 0} (o : Option A) → is_none o ≡ true → o ≡ None
+absent None t = refl
+absent (Some x) t = absurd (true≢false (sym t))
+
+pub formed_faultless : (e : Record) → well_formed e ≡ true → fault_of e ≡ None
+formed_faultless e formed = absent (fault_of e) (both_true (is_none (fault_of e)) (is_counted e) (sym (malformed_exactly e) ∙ formed)).0

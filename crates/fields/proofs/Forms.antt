@@ -8,7 +8,8 @@ use lib.Dec.{leb, eqb}
 use Rattle.laws.proofs.Tests.{by_cases, both_true, between}
 use Rattle.records.specs.declared.Record.{Record}
 use Rattle.fields.specs.Malformed.{used_by, is_absent, in_range, ids_in_range, values_in_range, others_zero, is_counted, well_formed}
-use Rattle.fields.specs.Kinds.{no_event, sort_of}
+use Rattle.fields.specs.declared.Sort.TheVariants.{NoEvent}
+use Rattle.fields.specs.Kinds.{same_sort, sort_of}
 use Rattle.fields.proofs.Agreeing.{only_requests}
 
 -- A field in range is at most its greatest value.
@@ -30,7 +31,7 @@ module _ (e : Record) (t : well_formed e ≡ true) where
   -- Its IDs and its values are in range, and a request has a count.
   parts : (ids_in_range (used_by e.kind) e ≡ true) × (values_in_range (used_by e.kind) e ≡ true) × (is_counted e ≡ true)
   parts =
-      let kind = not (eqb (sort_of e.kind) no_event) in
+      let kind = not (same_sort (sort_of e.kind) NoEvent) in
       let ids = ids_in_range (used_by e.kind) e in
       let values = values_in_range (used_by e.kind) e in
       let four = both_true (kind && ids && values && others_zero e) (is_counted e) t in

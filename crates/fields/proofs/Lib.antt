@@ -1,6 +1,5 @@
 pub mod Agreeing
 pub mod Faults
-pub mod Fitting
 pub mod Forms
-pub mod Searching
+pub mod Plain
 pub mod Sorts

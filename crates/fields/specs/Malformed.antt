@@ -2,7 +2,8 @@
 -- the other file; that both say the same is a law.
 use Rattle.std.specs.Prelude.{ℕ, Bool, not, ◌&&◌, ◌||◌, List, [], ◌∷◌, leb, eqb, get_or, replicate}
 use Rattle.records.specs.declared.Record.{Record}
-use Rattle.fields.specs.Kinds.{no_event, sort_of}
+use Rattle.fields.specs.declared.Sort.TheVariants.{NoEvent}
+use Rattle.fields.specs.Kinds.{same_sort, sort_of}
 
 -- by kind, "Uses": 1 for a field that it uses (neighbour, Old, New, first set, second set, reason, number, time)
 abbrev pub uses : List (List ℕ)
@@ -61,7 +62,7 @@ is_counted e = not (eqb e.kind 1) || leb 1 e.number && leb e.number 256
 
 -- what is not malformed; "a kind 16 elsewhere is malformed", as every kind is that is no event by itself
 abbrev pub formed_by : (ℕ → ℕ) → Record → Bool
-formed_by by e = not (eqb (sort_of e.kind) no_event) && ids_in_range by e && values_in_range by e && others_zero e && is_counted e
+formed_by by e = not (same_sort (sort_of e.kind) NoEvent) && ids_in_range by e && values_in_range by e && others_zero e && is_counted e
 
 abbrev pub well_formed : Record → Bool
 well_formed e = formed_by (used_by e.kind) e

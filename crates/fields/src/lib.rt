@@ -1,28 +1,27 @@
 // What sort of event a kind is, which fields it uses and within what limits, and what is wrong with a record.
 #![tactic(auto)]
 
-ghost use Rattle.std.specs.Prelude.{◌≡◌, ◌<◌, leb, get_or, take, drop};
-ghost use Rattle.fields.specs.Fields.{row_of, fits, all_fit, values_of, is_out, is_stray, first_from, fault_in, fault_of, fault_of_bearer, is_bearer, is_counted, sort_of_event, Plain};
+mod kinds;
 
-use records::Record;
+ghost use Rattle.std.specs.Prelude.{◌≡◌};
+ghost use Rattle.fields.specs.Fields.{lowest, offends, limits_in, all_fit, values_of, fault_in, fault_of, fault_of_bearer, is_bearer, is_counted, sort_of_event};
 
-// The sorts of events: none by itself; about one record of the table; about all outgoing and held records of a neighbour; about
-// the soonest record that is due; one that makes a record; a request; one that is taken and changes nothing.
-pub const NO_EVENT: u8 = 0;
+use kinds::{BEARER, FIELDS, Row, row_of};
+use records::{Kind, Record};
 
-pub const ONE_RECORD: u8 = 1;
+// The sorts of events.
+#[derive(Clone, Copy, PartialEq, Eq)]
+pub enum Sort {
+    NoEvent, // none by itself
+    OneRecord, // about one record of the table
+    AllOfNeighbour, // about all outgoing and held records of a neighbour
+    SoonestDue, // about the soonest record that is due
+    NewRecord, // one that makes a record
+    Request,
+    NoChange, // one that is taken and changes nothing
+}
 
-pub const ALL_OF_NEIGHBOUR: u8 = 2;
-
-pub const SOONEST_DUE: u8 = 3;
-
-pub const NEW_RECORD: u8 = 4;
-
-pub const REQUEST: u8 = 5;
-
-pub const NO_CHANGE: u8 = 6;
-
-// What is wrong with a record: the reply, and the first byte of the lowest field that offends; 0 and 0 if nothing is.
+// What is wrong with a record: the reply, and the first byte of the lowest field that offends.
 #[derive(Clone, Copy)]
 pub struct Fault {
     pub reply: u8,
@@ -35,232 +34,125 @@ const OUT_OF_RANGE: u8 = 11;
 
 const NOT_ZERO: u8 = 12;
 
-// How many fields a record has, its kind apart, and the first byte of each.
-const FIELDS: usize = 14;
-
-const OFFSETS: [u8; FIELDS] = [1, 2, 4, 6, 8, 10, 11, 12, 16, 24, 25, 26, 27, 28];
-
-// The limits of fields, by number: the greatest value of each.
-const LIMITS: usize = 12;
-
-const MOST: [u64; LIMITS] = [
-    0, // 0 a field that the kind does not use
-    31, // 1 a neighbour
-    4095, // 2 an ID
-    4095, // 3 an ID, or 65,535: absent
-    65535, // 4 a set
-    65535, // 5 a set that is not empty
-    255, // 6 any byte
-    4_294_967_295, // 7 any number
-    1_000_000_000_000, // 8 a time
-    1_000_000, // 9 units
-    15, // 10 an E-RAB ID or a priority
-    1, // 11 one bit
-];
-
-const UNUSED: u8 = 0;
-
-const ID_OR_ABSENT: u8 = 3;
-
-const SOME_SET: u8 = 5;
-
-const BEARER: [u8; 15] = [0, 0, 0, 0, 0, 0, 0, 9, 0, 10, 6, 10, 11, 0, NO_EVENT];
-
-// By kind: the limits of its 14 fields, lowest first (neighbour, Old, New, first set, second set, reason, byte 11, number, time, E-RAB ID, QCI,
-// priority, byte 27, bytes 28 to 31), then its sort. A match, since a constant table is built anew on the stack where it is read.
-fn row_of(kind: u8) -> [u8; 15]
-    ensures { result ≡ row_of kind }
-{
-    match kind {
-        1 => [1, 2, 0, 0, 0, 0, 0, 7, 0, 0, 0, 0, 0, 0, REQUEST], // handover request received
-        2 => [1, 2, 2, 4, 4, 0, 0, 0, 0, 0, 0, 0, 0, 0, ONE_RECORD], // request acknowledge received
-        3 => [1, 2, 0, 0, 0, 6, 0, 0, 0, 0, 0, 0, 0, 0, ONE_RECORD], // preparation failure received
-        4 => [1, 2, 2, 4, 0, 0, 0, 0, 0, 0, 0, 0, 0, 0, ONE_RECORD], // SN status transfer received
-        5 => [1, 2, 2, 0, 0, 0, 0, 0, 0, 0, 0, 0, 0, 0, ONE_RECORD], // UE context release received
-        6 => [1, 2, 3, 0, 0, 6, 0, 0, 0, 0, 0, 0, 0, 0, ONE_RECORD], // handover cancel received
-        7 => [1, 0, 0, 0, 0, 0, 0, 0, 0, 0, 0, 0, 0, 0, ALL_OF_NEIGHBOUR], // reset request received
-        8 => [1, 0, 0, 0, 0, 0, 0, 0, 0, 0, 0, 0, 0, 0, NO_CHANGE], // reset response received
-        9 => [1, 0, 0, 5, 0, 0, 0, 0, 0, 0, 0, 0, 0, 0, NEW_RECORD], // start a handover
-        10 => [0, 2, 0, 0, 0, 0, 0, 0, 0, 0, 0, 0, 0, 0, ONE_RECORD], // cancel
-        11 => [0, 0, 2, 0, 0, 0, 0, 0, 0, 0, 0, 0, 0, 0, ONE_RECORD], // UE arrived
-        12 => [0, 2, 0, 0, 0, 0, 0, 0, 0, 0, 0, 0, 0, 0, ONE_RECORD], // UE returned
-        13 => [0, 0, 2, 0, 0, 0, 0, 0, 0, 0, 0, 0, 0, 0, ONE_RECORD], // UE left
-        14 => [1, 0, 0, 0, 0, 0, 0, 0, 0, 0, 0, 0, 0, 0, ALL_OF_NEIGHBOUR], // reset a neighbour
-        15 => [0, 0, 0, 0, 0, 0, 0, 0, 8, 0, 0, 0, 0, 0, SOONEST_DUE], // tick
-        16 => BEARER, // bearer
-        17 => [0, 2, 0, 4, 0, 0, 0, 0, 0, 0, 0, 0, 0, 0, ONE_RECORD], // send SN status
-        _ => [0; 15],
-    }
-}
+// The first byte of each field, lowest first.
+static OFFSETS: [u8; FIELDS] = [1, 2, 4, 6, 8, 10, 11, 12, 16, 24, 25, 26, 27, 28];
 
 // The fields, lowest first.
 fn values_of(e: Record) -> [u64; FIELDS]
     ensures { result ≡ values_of e }
 {
     [
-        e.neighbour as u64,
-        e.old.0 as u64,
-        e.new.0 as u64,
-        e.first as u64,
-        e.second as u64,
-        e.reason as u64,
-        e.byte11 as u64,
-        e.number as u64,
+        u64::from(e.neighbour),
+        u64::from(e.old.0),
+        u64::from(e.new.0),
+        u64::from(e.first),
+        u64::from(e.second),
+        u64::from(e.reason),
+        u64::from(e.byte11),
+        u64::from(e.number),
         e.time,
-        e.erab as u64,
-        e.qci as u64,
-        e.priority as u64,
-        e.flags as u64,
-        e.bytes28 as u64,
+        u64::from(e.erab),
+        u64::from(e.qci),
+        u64::from(e.priority),
+        u64::from(e.flags),
+        u64::from(e.bytes28),
     ]
 }
 
-// Whether a value fits a limit.
-fn fits(limit: u8, value: u64) -> bool
-    requires { limit < 12 }
-    ensures { result ≡ fits limit value }
+// Whether all fields fit the limits of a row. It is compiled into its callers, so that against a row that is known, a bearer's, there are
+// plain tests.
+#[inline(always)]
+fn all_fit(row: Row, e: Record) -> bool
+    ensures { result ≡ all_fit (limits_in row) (values_of e) }
 {
-    ((limit == ID_OR_ABSENT) & (value == 65535))
-        | (!((limit == SOME_SET) & (value == 0)) & (value <= MOST[limit as usize]))
+    row.neighbour.fits(u64::from(e.neighbour))
+        & row.old.fits(u64::from(e.old.0))
+        & row.new.fits(u64::from(e.new.0))
+        & row.first.fits(u64::from(e.first))
+        & row.second.fits(u64::from(e.second))
+        & row.reason.fits(u64::from(e.reason))
+        & row.byte11.fits(u64::from(e.byte11))
+        & row.number.fits(u64::from(e.number))
+        & row.time.fits(e.time)
+        & row.erab.fits(u64::from(e.erab))
+        & row.qci.fits(u64::from(e.qci))
+        & row.priority.fits(u64::from(e.priority))
+        & row.flags.fits(u64::from(e.flags))
+        & row.bytes28.fits(u64::from(e.bytes28))
 }
 
-// Whether a value is at most the greatest of a limit.
-fn within(most: &[u64; LIMITS], limit: u8, value: u64) -> bool
-    requires { limit < 12 }
-    ensures { result ≡ leb value (get_or most.now limit 0) }
+// The lowest field that offends, of those that the row's kind uses or of those that it does not.
+fn lowest(row: Row, e: Record, used: bool) -> Option<usize>
+    ensures { result ≡ lowest (offends used) (limits_in row) (values_of e) }
 {
-    value <= most[limit as usize]
-}
-
-// Whether the fields up to byte 11 fit their limits.
-fn low_fit(e: Record, row: [u8; 15]) -> bool
-    requires { Plain row }
-    ensures { result ≡ all_fit (λ k. get_or row k 0) 0 (take 7 (values_of e)) }
-{
-    let most = MOST;
-    within(&most, row[0], e.neighbour as u64)
-        & within(&most, row[1], e.old.0 as u64)
-        & (((row[2] == ID_OR_ABSENT) & (e.new.0 == 65535)) | within(&most, row[2], e.new.0 as u64))
-        & !((row[3] == SOME_SET) & (e.first == 0))
-        & within(&most, row[3], e.first as u64)
-        & within(&most, row[4], e.second as u64)
-        & within(&most, row[5], e.reason as u64)
-        & within(&most, row[6], e.byte11 as u64)
-}
-
-// Whether the others do.
-fn high_fit(e: Record, row: [u8; 15]) -> bool
-    requires { Plain row }
-    ensures { result ≡ all_fit (λ k. get_or row k 0) 7 (drop 7 (values_of e)) }
-{
-    let most = MOST;
-    within(&most, row[7], e.number as u64)
-        & within(&most, row[8], e.time)
-        & within(&most, row[9], e.erab as u64)
-        & within(&most, row[10], e.qci as u64)
-        & within(&most, row[11], e.priority as u64)
-        & within(&most, row[12], e.flags as u64)
-        & within(&most, row[13], e.bytes28 as u64)
-}
-
-// The lowest field that is out of range.
-fn lowest_out(row: [u8; 15], values: [u64; FIELDS]) -> usize
-    requires { Plain row }
-    ensures { result ≡ first_from is_out (λ k. get_or row k 0) 0 values }
-{
-    for i in 0..FIELDS {
-        if !(row[i] == UNUSED) & !fits(row[i], values[i]) {
-            return i;
-        }
-    }
-    FIELDS
-}
-
-// The lowest field that is not used and not zero.
-fn lowest_stray(row: [u8; 15], values: [u64; FIELDS]) -> usize
-    ensures { result ≡ first_from is_stray (λ k. get_or row k 0) 0 values }
-{
-    for i in 0..FIELDS {
-        if (row[i] == UNUSED) & !(values[i] == 0) {
-            return i;
-        }
-    }
-    FIELDS
+    let limits = row.limits();
+    let values = values_of(e);
+    limits
+        .iter()
+        .zip(values.iter())
+        .position(|(limit, value)| limit.offends(used, *value))
 }
 
 // What is wrong with the fields of a record: the lowest that is out of range, else the lowest that is not used and not zero.
-fn fault_in(e: Record, row: [u8; 15]) -> Fault
-    requires { Plain row }
-    ensures { result ≡ fault_in (λ k. get_or row k 0) (values_of e) }
+fn fault_in(row: Row, e: Record) -> Option<Fault>
+    ensures { result ≡ fault_in (limits_in row) (values_of e) }
 {
-    let values = values_of(e);
-    let out = lowest_out(row, values);
-    if out < FIELDS {
-        return Fault {
+    if let Some(field) = lowest(row, e, true) {
+        return Some(Fault {
             reply: OUT_OF_RANGE,
-            offset: OFFSETS[out],
-        };
+            offset: OFFSETS[field],
+        });
     }
-    let stray = lowest_stray(row, values);
-    if stray < FIELDS {
-        return Fault {
-            reply: NOT_ZERO,
-            offset: OFFSETS[stray],
-        };
-    }
-    Fault {
-        reply: 0,
-        offset: 0,
-    }
+    let field = lowest(row, e, false)?;
+    Some(Fault {
+        reply: NOT_ZERO,
+        offset: OFFSETS[field],
+    })
 }
 
 // What is wrong with an event, a request's count and its bearers apart.
-pub fn fault_of(e: Record) -> Fault
+pub fn fault_of(e: Record) -> Option<Fault>
     ensures { result ≡ fault_of e }
 {
     let row = row_of(e.kind);
-    if row[14] == NO_EVENT {
-        return Fault {
+    if row.sort == Sort::NoEvent {
+        return Some(Fault {
             reply: WRONG_KIND,
             offset: 0,
-        };
+        });
     }
-    fault_in(e, row)
+    fault_in(row, e)
 }
 
 // What is wrong with the fields of a bearer's record.
-pub fn bearer_fault(r: Record) -> Fault
+pub fn bearer_fault(r: Record) -> Option<Fault>
     ensures { result ≡ fault_of_bearer r }
 {
-    fault_in(r, BEARER)
+    fault_in(BEARER, r)
 }
 
 // Whether a record is a bearer's, with nothing wrong in it.
 pub fn is_bearer(r: Record) -> bool
     ensures { result ≡ is_bearer r }
 {
-    if low_fit(r, BEARER) {
-        high_fit(r, BEARER) & (r.kind == 16)
-    } else {
-        false
-    }
+    r.kind == Kind::Bearer as u8 && all_fit(BEARER, r)
 }
 
 // Whether a request's count is 1 to 256.
 fn is_counted(e: Record) -> bool
     ensures { result ≡ is_counted e }
 {
-    !(e.kind == 1) | ((1 <= e.number) & (e.number <= 256))
+    e.kind != Kind::Request as u8 || 1 <= e.number && e.number <= 256
 }
 
 // What sort of event a record is: none if it is malformed, a request's bearers apart.
-pub fn sort_of(e: Record) -> u8
+pub fn sort_of(e: Record) -> Sort
     ensures { result ≡ sort_of_event e }
 {
     let row = row_of(e.kind);
-    if low_fit(e, row) & high_fit(e, row) & is_counted(e) {
-        row[14]
+    if all_fit(row, e) && is_counted(e) {
+        row.sort
     } else {
-        NO_EVENT
+        Sort::NoEvent
     }
 }

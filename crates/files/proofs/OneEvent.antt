@@ -10,11 +10,12 @@ use borrow.Author.Tests.{leb-true, leb-false, eqb-true, eqb-false}
 use lib.Dec.{leb, eqb}
 use lib.ListN.{length, get_or, set, length-set}
 use lib.Seq.{get_or-set_other}
+use Rattle.std.specs.Prelude.{Option, Some, None}
 use Rattle.laws.proofs.Tests.{by_cases, both_true, on_true, on_false, below_at}
 use Rattle.records.specs.Record.{room_at, written_at}
 use Rattle.records.specs.declared.Record.{Record}
 use Rattle.composing.specs.declared.Draft.{Draft}
-use Rattle.composing.specs.Composed.{Made, made, fields, limits, is_gap, is_pair, hex_value, takes_bearer, may_begin, lacks_count, new_draft, on_draft, put, begun, chosen, commented, stage, hex, counted, understood, settle, close, typed, step, read_from, with_word, pushed}
+use Rattle.composing.specs.Composed.{Made, made, fields, limits, is_gap, is_pair, hex_value, with_byte, looked_up, takes_bearer, may_begin, lacks_count, new_draft, on_draft, put, begun, chosen, commented, stage, hex, counted, understood, settle, close, typed, step, read_from, with_word, pushed}
 use Rattle.words.specs.Values.{record_from, is_set}
 use Rattle.words.specs.Words.{place_of}
 use Rattle.files.specs.Files.{Records, OneEvent}
@@ -170,17 +171,23 @@ understood_open m k was =
     (λ w. rw (t, u, v, w) (over _ (omega arith))))))
 
 -- One byte more is taken where there were fewer than a record has.
-hex_open : (m : Made) → m.draft.mode ≡ 2 → Open (hex m)
-unfolding hex
-hex_open m two =
-    let byte = leb (hex_value m.draft.word) 255 in
-    let few = leb m.draft.staged 31 in
-    by_cases (byte && few)
+byte_open : (m : Made) (byte : Option ℕ) → m.draft.mode ≡ 2 → Open (with_byte m byte)
+byte_open m None two = over _ (omega arith)
+byte_open m (Some byte) two =
+    by_cases (leb m.draft.staged 31)
     (λ t.
     by_cases (leb (length m.out) m.draft.staged)
     (λ u. rw (t, u) (over _ (omega arith)))
-    (λ u. rw (t, u) record { words = λ low. absurd (omega (arith, two)); bytes = λ _. omega (arith, leb-true m.draft.staged 31 (both_true byte few t).1) }))
+    (λ u. rw (t, u) record { words = λ low. absurd (omega (arith, two)); bytes = λ _. omega (arith, leb-true m.draft.staged 31 t) }))
     (λ t. rw t (over _ (omega arith)))
+
+hex_open : (m : Made) → m.draft.mode ≡ 2 → Open (hex m)
+unfolding hex
+hex_open m two = byte_open m (hex_value m.draft.word) two
+
+word_open : (m : Made) (place : Option ℕ) → Open m → Open (looked_up m place)
+word_open m None was = over _ (omega arith)
+word_open m (Some k) was = understood_open m k was
 
 settle_open : (m : Made) → Open m → Open (settle m)
 unfolding settle
@@ -193,10 +200,10 @@ settle_open m was =
     (λ u. rw (t, u) (hex_open m (eqb-true m.draft.mode 2 u)))
     (λ u.
     let number : Made = on_draft (λ d. put d w.value) m in
-    let word : Made = understood m (place_of w.text) in
+    let word : Made = looked_up m (place_of w.text) in
     by_cases w.number
     (λ v. rw (t, u, on_true w.number number word v) (put_open m w.value was))
-    (λ v. rw (t, u, on_false w.number number word v) (understood_open m (place_of w.text) was))))
+    (λ v. rw (t, u, on_false w.number number word v) (word_open m (place_of w.text) was))))
 
 -- ---- the end of a line, and its bytes before that
 

@@ -1,5 +1,5 @@
 -- Hexadecimal digits: the bytes that they were written for are read back.
-use Prim.Native.Nat.{ℕ, suc, ◌+◌, ◌/◌, ◌%◌, ◌≤◌, ◌<◌}
+use Prim.Native.Nat.{ℕ, suc, ◌+◌, ◌*◌, ◌-◌, ◌/◌, ◌%◌, ◌≤◌, ◌<◌}
 use mathlib.Core.Path.{◌≡◌, refl, sym, ◌∙◌, ap}
 use mathlib.Core.List.{List, [], ◌∷◌, ◌++◌}
 use native.Mathlib.Nat.{zero-add}
@@ -9,34 +9,40 @@ use borrow.Author.Tests.{leb-true, leb-false, le-leb, lt-leb}
 use lib.Dec.{leb}
 use lib.ListN.{length, set, length-set}
 use lib.Seq.{sets}
+use Rattle.std.specs.Prelude.{Some}
 use Rattle.laws.proofs.Tests.{by_cases}
 use Rattle.records.specs.Record.{AreBytes}
 use Rattle.composing.specs.Composed.{empty_word, pushed, nibble, hex_value, hex, understood, settle, typed, step}
 use Rattle.showing.specs.Shown.{hex_digit, bytes_text, raw_text}
-use Rattle.words.specs.Words.{word_at, trimmed, is_same, place_in}
+use Rattle.words.specs.Words.{word_at, trimmed, place_of}
 use Rattle.composing.proofs.Machine.{hex_on, typed_on, typed_pair, step_typed}
 use Rattle.files.specs.Files.{composed_from}
 use Rattle.files.proofs.Leading.{at, resting, Leads, leads_on, leads_to, no_gap}
 
 -- A digit stands for the number that it was written for.
-digit_back : (n : ℕ) → n < 16 → nibble (hex_digit n) ≡ n
+digit_back : (n : ℕ) → n < 16 → nibble (hex_digit n) ≡ Some n
 unfolding nibble
 digit_back n h =
     by_cases (leb n 9)
-    (λ t. let low : n ≤ 9 = leb-true n 9 t in rw (t, le-leb 48 (48 + n) (omega arith), le-leb (48 + n) 57 (omega arith)) (omega arith))
+    (λ t.
+    let low : n ≤ 9 = leb-true n 9 t in
+    let same : 48 + n - 48 ≡ n = omega arith in
+    rw (t, le-leb 48 (48 + n) (omega arith), le-leb (48 + n) 57 (omega arith)) (ap Some same))
     (λ t.
     let high : 9 < n = leb-false n 9 t in
-    rw (t, le-leb 48 (87 + n) (omega arith), lt-leb (87 + n) 57 (omega arith), le-leb 97 (87 + n) (omega arith), le-leb (87 + n) 102 (omega arith)) (omega arith))
+    let same : 87 + n - 87 ≡ n = omega arith in
+    rw (t, le-leb 48 (87 + n) (omega arith), lt-leb (87 + n) 57 (omega arith), le-leb 97 (87 + n) (omega arith), le-leb (87 + n) 102 (omega arith)) (ap Some same))
 
 -- A digit is past every byte that ends a word.
 digit_past : (n : ℕ) → 48 ≤ hex_digit n
 digit_past n = by_cases (leb n 9) (λ t. rw t (omega arith)) (λ t. rw t (omega arith))
 
 -- Two digits are the byte that they were written for.
-pair_back : (b : ℕ) → b < 256 → hex_value (pushed (pushed empty_word (hex_digit (b / 16))) (hex_digit (b % 16))) ≡ b
+pair_back : (b : ℕ) → b < 256 → hex_value (pushed (pushed empty_word (hex_digit (b / 16))) (hex_digit (b % 16))) ≡ Some b
 unfolding hex_value
 pair_back b h =
-    rw (digit_back (b / 16) (omega arith), digit_back (b % 16) (omega arith), le-leb (b / 16) 15 (omega arith), le-leb (b % 16) 15 (omega arith)) (omega arith)
+    let same : b / 16 * 16 + b % 16 ≡ b = omega arith in
+    rw (digit_back (b / 16) (omega arith), digit_back (b % 16) (omega arith)) (ap Some same)
 
 -- One byte is read behind those that stand in the buffer.
 byte_read : (b : ℕ) → b < 256 → (v : List ℕ) (f s : ℕ) (out : List ℕ) → s < 32 → s < length out
@@ -53,7 +59,7 @@ byte_read b h v f s out few room =
     step_typed empty high half (λ e. omega arith) (omega arith) (λ e. omega arith) (no_gap high past) (typed_on empty high half.draft refl refl)
     in
     let stored : resting v f 2 (s + 1) (set out s b) ≡ hex full =
-    hex_on full b (resting v f 2 (s + 1) out).draft (sym (pair_back b h)) (rw (le-leb b 255 (omega arith), le-leb s 31 (omega arith))) room refl
+    hex_on full b (resting v f 2 (s + 1) out).draft (sym (pair_back b h)) (omega arith) room refl
     in
     let second : resting v f 2 (s + 1) (set out s b) ≡ step half low =
     step_typed half low _ (λ e. omega arith) (omega arith) (λ e. omega arith) (no_gap low past') (typed_pair half low full.draft _ refl refl stored)
@@ -74,7 +80,7 @@ bytes_read (b ∷ bytes) h v f s out few room = λ rest.
 
 -- The word before them makes a new line one of bytes.
 raw_word_lem : (v out : List ℕ) (f : ℕ) → Leads (word_at 36 ++ (32 ∷ [])) (resting v f 0 0 out) (resting v 15 2 0 out)
-unfolding composed_from step typed settle understood word_at trimmed is_same place_in
+unfolding composed_from step typed settle understood word_at trimmed place_of
 raw_word_lem v out f rest = refl
 
 -- A new line takes the bytes of such a text to the front of the buffer.

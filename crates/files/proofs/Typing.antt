@@ -1,16 +1,17 @@
 -- Words and numbers: what a line is after their bytes, and once they end.
 use Prim.Native.Nat.{ℕ, zero, suc, ◌+◌, ◌/◌, ◌%◌, ◌^◌, ◌≤◌, ◌<◌}
-use mathlib.Core.Path.{◌≡◌, refl, sym, ◌∙◌}
-use mathlib.Core.Bool.{Bool, true, false, not, ◌&&◌}
+use mathlib.Core.Path.{◌≡◌, refl, sym, ap, ◌∙◌}
+use mathlib.Core.Bool.{Bool, true, false, not, ◌&&◌, false≢true}
 use mathlib.Core.List.{List, [], ◌∷◌, ◌++◌, append-nil, append_assoc}
 use native.Mathlib.Omega.{arith}
 use borrow.Author.Tests.{le-leb, eq-eqb, ne_eqb, leb-false, ltb-false, eqb-true, eqb-false, not-true}
 use lib.Dec.{leb, ltb, eqb}
 use lib.ListN.{get_or, set}
+use Rattle.std.specs.Prelude.{Option, Some, None}
 use Rattle.laws.proofs.Tests.{both_true, by_cases, on_true, below, below_at}
 use Rattle.buffers.specs.Digits.{size_in, size, digits}
 use Rattle.composing.specs.declared.Word.{Word}
-use Rattle.words.specs.Words.{last_kind, last_field, raw_word, is_same, place_in, place_of, trimmed, word_at}
+use Rattle.words.specs.Words.{last_kind, last_field, raw_word, place_of, trimmed, word_at}
 use Rattle.composing.specs.Composed.{is_gap, tenth, takes_digit, longer, empty_word, pushed, blank_values, limits, fields, added, next_field, put, begun, chosen, may_begin, Made, stage, understood, settle, step}
 use Rattle.composing.proofs.Machine.{a_kind, a_field, settle_number, settle_word, typed_on, step_gap, step_typed}
 use Rattle.files.proofs.Leading.{at, resting, Leads, leads_on, leads_to, no_gap, Reads}
@@ -62,13 +63,22 @@ typed_all w (b ∷ bs) = typed_all (pushed w b) bs
 abbrev pub word_of : ℕ → Word
 word_of k = typed_all empty_word (word_at k)
 
+-- whether a place is another
+abbrev is_at : ℕ → Option ℕ → Bool
+is_at k None = false
+is_at k (Some place) = eqb k place
+
+at_place : (k : ℕ) (place : Option ℕ) → is_at k place ≡ true → Some k ≡ place
+at_place k None t = absurd (false≢true t)
+at_place k (Some place) t = ap Some (eqb-true k place t)
+
 -- whether a word of the table reads back to its place
 abbrev is_read : ℕ → Bool
-is_read k = all_plain (word_at k) && not (eqb (word_of k).size 0) && not (word_of k).number && eqb k (place_of (word_of k).text)
+is_read k = all_plain (word_at k) && not (eqb (word_of k).size 0) && not (word_of k).number && is_at k (place_of (word_of k).text)
 
 -- Every one does: the table is computed.
 all_read : below 37 is_read ≡ true
-unfolding all_plain typed_all word_at trimmed place_in is_same
+unfolding all_plain typed_all word_at trimmed place_of
 all_read = refl
 
 -- ---- numbers
@@ -191,7 +201,7 @@ module _ (values : List ℕ) (field mode staged : ℕ) (out : List ℕ) where
         (eqb-false w.size 0 (not-true (eqb w.size 0) two.1))
         (λ u. omega arith)
         (not-true w.number three.1)
-        (eqb-true k (place_of w.text) all.1)
+        (at_place k (place_of w.text) all.1)
         e)
 
     -- A kind's word begins a record where it may, and what was filled before it is written.

@@ -9,24 +9,26 @@ use lib.Dec.{eqb}
 use lib.ListN.{get_or}
 use Rattle.laws.proofs.Tests.{by_cases, both_true, every, every_at}
 use Rattle.records.specs.declared.Record.{Record}
+use Rattle.handover.specs.declared.Action.{Action}
+use Rattle.handover.specs.declared.Action.TheVariants.{Untaken, Prepared, StatusStored, StatusSent, Arrived}
 use Rattle.handover.specs.declared.Decision.{Decision}
 use Rattle.handover.specs.declared.Entry.{Entry}
-use Rattle.handover.specs.Events.{actions, action_of, message, silence, decision, refusal, decide, last_word, lists_fit, set_fits, prepared, stored, serving}
+use Rattle.handover.specs.Events.{actions, action_of, number_of, same_action, message, silence, decision, refusal, does, decide, last_word, lists_fit, set_fits, prepared, stored, serving}
 use Rattle.handover.specs.Numbers.{blank}
 
 -- ---- where an action stands
 
--- A test that holds at every kind and state of the table, and of no action, holds of the action of any kind and state.
-pub every_action : (test : ℕ → ℕ → ℕ → Bool) → every (λ k row. every (test k) row) actions ≡ true → (k st : ℕ) → ((j : ℕ) → test k j 0 ≡ true) → test k st (action_of k st) ≡ true
+-- A test that holds at every kind and state of the table, and where nothing is taken, holds of the action of any kind and state.
+pub every_action : (test : ℕ → ℕ → Action → Bool) → every (λ k row. every (test k) row) actions ≡ true → (k st : ℕ) → ((j : ℕ) → test k j Untaken ≡ true) → test k st (action_of k st) ≡ true
 every_action test all k st none =
-    every_at (test k) (get_or actions k []) 0 st (every_at (λ i row. every (test i) row) actions [] k all (λ j. refl)) none
+    every_at (test k) (get_or actions k []) Untaken st (every_at (λ i row. every (test i) row) actions [] k all (λ j. refl)) none
 
 -- whether an action stands at one kind and one state only
-abbrev sole : ℕ → ℕ → ℕ → ℕ → ℕ → ℕ → Bool
-sole action k s kind state x = not (eqb x action) || eqb kind k && eqb state s
+abbrev sole : Action → ℕ → ℕ → ℕ → ℕ → Action → Bool
+sole action k s kind state x = not (same_action x action) || eqb kind k && eqb state s
 
 -- By that test of the whole table, an action is found at its kind and state only.
-pub stands : (action k s kind state : ℕ) → eqb 0 action ≡ false → every (λ i row. every (sole action k s i) row) actions ≡ true → eqb (action_of kind state) action ≡ true → (kind ≡ k) × (state ≡ s)
+pub stands : (action : Action) (k s kind state : ℕ) → same_action Untaken action ≡ false → every (λ i row. every (sole action k s i) row) actions ≡ true → same_action (action_of kind state) action ≡ true → (kind ≡ k) × (state ≡ s)
 stands action k s kind state some test t =
     let here = every_action (sole action k s) test kind state (λ j. rw some) in
     let both : (eqb kind k ≡ true) × (eqb state s ≡ true) = both_true (eqb kind k) (eqb state s) (rw t at here) in
@@ -35,38 +37,40 @@ stands action k s kind state some test t =
 -- ---- the decisions
 
 -- whether an action leaves the record in the table
-abbrev pub leaves : ℕ → Bool
-leaves action = eqb action 0 || eqb action 11 || eqb action 12 || eqb action 13 || eqb action 8
+abbrev pub leaves : Action → Bool
+leaves Untaken = true
+leaves Prepared = true
+leaves StatusStored = true
+leaves StatusSent = true
+leaves Arrived = true
+leaves ending = false
 
 -- What holds of each decision that there is holds of what is decided.
-pub decide_as : (P : Decision → Type 0) (e : Record) (r : Entry) (deadline : ℕ)
-    → P (refusal 6 r) → P (refusal 7 r)
-    → (e.kind ≡ 2 → r.state ≡ 1 → lists_fit r e ≡ true → P (decision 0 0 silence (prepared r e deadline)))
-    → (r.state ≡ 3 → set_fits r e ≡ true → P (decision 0 0 silence (stored r e)))
-    → (e.kind ≡ 17 → r.state ≡ 2 → set_fits r e ≡ true → P (decision 0 0 (message 4 r.neighbour r.old.0 r.new.0 e.first 0 0) r))
-    → (e.kind ≡ 11 → r.state ≡ 3 → P (decision 0 8 (message 5 r.neighbour r.old.0 r.new.0 0 0 0) (serving r)))
-    → (leaves (action_of e.kind r.state) ≡ false → P (decision 0 (action_of e.kind r.state) (last_word e r) blank))
-    → P (decide e r deadline)
-decide_as P e r deadline six seven acknowledged status forwarded arrived ended =
-    let action = action_of e.kind r.state in
-    by_cases (eqb action 0) (λ t. rw t six)
-    (λ t. by_cases (eqb action 11)
-    (λ u.
-    let there = stands 11 2 1 e.kind r.state refl refl u in
-    rw (t, u) (by_cases (lists_fit r e) (λ v. rw v (acknowledged there.0 there.1 v)) (λ v. rw v seven)))
-    (λ u. by_cases (eqb action 12)
-    (λ w.
-    let there = stands 12 4 3 e.kind r.state refl refl w in
-    rw (t, u, w) (by_cases (set_fits r e) (λ v. rw v (status there.1 v)) (λ v. rw v seven)))
-    (λ w. by_cases (eqb action 13)
-    (λ x.
-    let there = stands 13 17 2 e.kind r.state refl refl x in
-    rw (t, u, w, x) (by_cases (set_fits r e) (λ v. rw v (forwarded there.0 there.1 v)) (λ v. rw v seven)))
-    (λ x. by_cases (eqb action 8)
-    (λ y.
-    let there = stands 8 11 3 e.kind r.state refl refl y in
-    rw (t, u, w, x, y) (arrived there.0 there.1))
-    (λ y. rw (t, u, w, x, y) (ended (rw (t, u, w, x, y))))))))
+module _ (P : Decision → Type 0) (e : Record) (r : Entry) (deadline : ℕ)
+    (six : P (refusal 6 r)) (seven : P (refusal 7 r))
+    (acknowledged : e.kind ≡ 2 → r.state ≡ 1 → lists_fit r e ≡ true → P (decision 0 0 silence (prepared r e deadline)))
+    (status : r.state ≡ 3 → set_fits r e ≡ true → P (decision 0 0 silence (stored r e)))
+    (forwarded : e.kind ≡ 17 → r.state ≡ 2 → set_fits r e ≡ true → P (decision 0 0 (message 4 r.neighbour r.old.0 r.new.0 e.first 0 0) r))
+    (arrived : e.kind ≡ 11 → r.state ≡ 3 → P (decision 0 8 (message 5 r.neighbour r.old.0 r.new.0 0 0 0) (serving r)))
+    (ended : leaves (action_of e.kind r.state) ≡ false → P (decision 0 (number_of (action_of e.kind r.state)) (last_word e r) blank)) where
+  done_as : (action : Action) → action_of e.kind r.state ≡ action → P (does action e r deadline)
+  done_as Untaken is = six
+  done_as Prepared is =
+      let there = stands Prepared 2 1 e.kind r.state refl refl (rw is) in
+      by_cases (lists_fit r e) (λ v. rw v (acknowledged there.0 there.1 v)) (λ v. rw v seven)
+  done_as StatusStored is =
+      let there = stands StatusStored 4 3 e.kind r.state refl refl (rw is) in
+      by_cases (set_fits r e) (λ v. rw v (status there.1 v)) (λ v. rw v seven)
+  done_as StatusSent is =
+      let there = stands StatusSent 17 2 e.kind r.state refl refl (rw is) in
+      by_cases (set_fits r e) (λ v. rw v (forwarded there.0 there.1 v)) (λ v. rw v seven)
+  done_as Arrived is =
+      let there = stands Arrived 11 3 e.kind r.state refl refl (rw is) in
+      arrived there.0 there.1
+  done_as ending is = rw is at (ended (rw is))
+
+  pub decide_as : P (decide e r deadline)
+  decide_as = done_as (action_of e.kind r.state) refl
 
 -- What holds of the record, of a free place, and of each of the three other records that a decision makes, holds of what is decided.
 pub decide_keeps : (P : Entry → Type 0) (e : Record) (r : Entry) (deadline : ℕ)

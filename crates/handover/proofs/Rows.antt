@@ -12,11 +12,13 @@ use Rattle.laws.proofs.Tests.{by_cases, both_true, below, below_at, same_at}
 use Rattle.records.specs.declared.Record.{Record}
 use Rattle.records.specs.Record.{altered, zeros}
 use Rattle.sets.specs.Sets.{union, disjoint, within}
-use Rattle.fields.specs.Fields.{one_record, sort_of}
+use Rattle.fields.specs.declared.Sort.TheVariants.{OneRecord}
+use Rattle.fields.specs.Fields.{same_sort, sort_of}
 use Rattle.fields.proofs.Sorts.{every_kind}
+use Rattle.handover.specs.declared.Action.TheVariants.{Untaken}
 use Rattle.handover.specs.declared.Decision.{Decision}
 use Rattle.handover.specs.declared.Entry.{Entry}
-use Rattle.handover.specs.Events.{key, about, actions, action_of, message, silence, decision, refusal, decide}
+use Rattle.handover.specs.Events.{key, about, actions, action_of, same_action, message, silence, decision, refusal, decide}
 use Rattle.handover.specs.Numbers.{blank}
 use Rattle.handover.proofs.Keys.{keyed_means}
 
@@ -170,11 +172,11 @@ alike_same true false t = sym t
 alike_same false true t = t
 alike_same false false t = refl
 
--- A cell of the table is 0 exactly where they do not, by computation.
-pub cell_taken : (k st : ℕ) → k < length actions → st < 5 → eqb (action_of k st) 0 ≡ not (taken k st)
+-- A cell of the table is untaken exactly where they do not, by computation.
+pub cell_taken : (k st : ℕ) → k < length actions → st < 5 → same_action (action_of k st) Untaken ≡ not (taken k st)
 cell_taken k st kind state =
-    let cell : ℕ → ℕ → Bool = λ i j. alike (eqb (action_of i j) 0) (not (taken i j)) in
-    alike_same (eqb (action_of k st) 0) (not (taken k st))
+    let cell : ℕ → ℕ → Bool = λ i j. alike (same_action (action_of i j) Untaken) (not (taken i j)) in
+    alike_same (same_action (action_of k st) Untaken) (not (taken k st))
     (below_at 5 (cell k) st (below_at (length actions) (λ i. below 5 (cell i)) k refl kind) state)
 
 -- ---- no row is missing
@@ -207,10 +209,10 @@ about_looks e r t =
     rw (le-leb (key e.kind 0) r.state keys.first, le-leb r.state (key e.kind 1) keys.last)
 
 -- Whatever record an event about one record is about, there is a row for it.
-pub row_of : (e : Record) (r : Entry) → sort_of e.kind ≡ one_record → r.state < 5 → about e r ≡ true → (n : ℕ) × (e.kind ≡ (get_or rows n last_row).kind) × (r.state ≡ (get_or rows n last_row).state)
+pub row_of : (e : Record) (r : Entry) → sort_of e.kind ≡ OneRecord → r.state < 5 → about e r ≡ true → (n : ℕ) × (e.kind ≡ (get_or rows n last_row).kind) × (r.state ≡ (get_or rows n last_row).state)
 row_of e r one few t =
-    let row = every_kind (λ k sort. below 5 (λ st. not (eqb sort one_record && looks k st) || has k st rows)) refl (λ j. refl) e.kind in
-    let cell = below_at 5 (λ st. not (eqb (sort_of e.kind) one_record && looks e.kind st) || has e.kind st rows) r.state row few in
+    let row = every_kind (λ k sort. below 5 (λ st. not (same_sort sort OneRecord && looks k st) || has k st rows)) refl (λ j. refl) e.kind in
+    let cell = below_at 5 (λ st. not (same_sort (sort_of e.kind) OneRecord && looks e.kind st) || has e.kind st rows) r.state row few in
     has_at e.kind r.state rows last_row (rw (one, about_looks e r t) at cell)
 
 -- Whatever record a tick is about, there is a row for it.

@@ -1,10 +1,14 @@
 -- Which state takes which event.
 use Rattle.std.specs.Prelude.{ℕ, Bool, cond, not, ◌&&◌, ◌||◌, List, [], ◌∷◌, leb, ltb, eqb, get_or, replicate}
+use denote.Enum.Bare.{sameb}
 use Rattle.records.specs.Record.{zeros}
 use Rattle.records.specs.declared.Record.{Record}
 use Rattle.sets.specs.Sets.{union, disjoint, within}
+use Rattle.handover.specs.declared.Action.{Action}
+use Rattle.handover.specs.declared.Action.TheVariants.{Untaken, Failed, Cancelled, Moved, Overtime, Returned, Lapsed, CalledOff, Arrived, Left, Reset, Prepared, StatusStored, StatusSent, Started, Held}
 use Rattle.handover.specs.declared.Decision.{Decision}
 use Rattle.handover.specs.declared.Entry.{Entry}
+use Rattle.handover.specs.contracts.Action as acts
 use Rattle.handover.specs.Numbers.{blank, own}
 
 -- ---- the record an event is about
@@ -63,37 +67,57 @@ sooner a b = ltb a.deadline b.deadline || eqb a.deadline b.deadline && ltb (own 
 
 -- ---- what it does
 
--- "This stands as a constant table of events against record states": free, preparing, prepared, held, serving. 0 is "state does
--- not take it"; 1 to 10 are the endings, of which 8 leaves a serving record and the others none; 11 to 15 end nothing:
--- 11 prepared, 12 status stored, 13 status sent, 14 started, 15 held
-abbrev pub actions : List (List ℕ)
+-- "This stands as a constant table of events against record states": free, preparing, prepared, held, serving
+abbrev pub actions : List (List Action)
 actions =
-    (0 ∷ 0 ∷ 0 ∷ 0 ∷ 0 ∷ [])  -- 0 no kind
-    ∷ (15 ∷ 0 ∷ 0 ∷ 0 ∷ 0 ∷ [])  -- 1 handover request received
-    ∷ (0 ∷ 11 ∷ 0 ∷ 0 ∷ 0 ∷ [])  -- 2 request acknowledge received
-    ∷ (0 ∷ 1 ∷ 0 ∷ 0 ∷ 0 ∷ [])  -- 3 preparation failure received
-    ∷ (0 ∷ 0 ∷ 0 ∷ 12 ∷ 0 ∷ [])  -- 4 SN status transfer received
-    ∷ (0 ∷ 0 ∷ 3 ∷ 0 ∷ 0 ∷ [])  -- 5 UE context release received
-    ∷ (0 ∷ 0 ∷ 0 ∷ 7 ∷ 0 ∷ [])  -- 6 handover cancel received
-    ∷ (0 ∷ 10 ∷ 10 ∷ 10 ∷ 0 ∷ [])  -- 7 reset request received
-    ∷ (0 ∷ 0 ∷ 0 ∷ 0 ∷ 0 ∷ [])  -- 8 reset response received
-    ∷ (14 ∷ 0 ∷ 0 ∷ 0 ∷ 0 ∷ [])  -- 9 start a handover
-    ∷ (0 ∷ 2 ∷ 2 ∷ 0 ∷ 0 ∷ [])  -- 10 cancel
-    ∷ (0 ∷ 0 ∷ 0 ∷ 8 ∷ 0 ∷ [])  -- 11 UE arrived
-    ∷ (0 ∷ 0 ∷ 5 ∷ 0 ∷ 0 ∷ [])  -- 12 UE returned
-    ∷ (0 ∷ 0 ∷ 0 ∷ 0 ∷ 9 ∷ [])  -- 13 UE left
-    ∷ (0 ∷ 10 ∷ 10 ∷ 10 ∷ 0 ∷ [])  -- 14 reset a neighbour
-    ∷ (0 ∷ 2 ∷ 4 ∷ 6 ∷ 0 ∷ [])  -- 15 tick
-    ∷ (0 ∷ 0 ∷ 0 ∷ 0 ∷ 0 ∷ [])  -- 16 bearer
-    ∷ (0 ∷ 0 ∷ 13 ∷ 0 ∷ 0 ∷ [])  -- 17 send SN status
+    (Untaken ∷ Untaken ∷ Untaken ∷ Untaken ∷ Untaken ∷ [])  -- 0 no kind
+    ∷ (Held ∷ Untaken ∷ Untaken ∷ Untaken ∷ Untaken ∷ [])  -- 1 handover request received
+    ∷ (Untaken ∷ Prepared ∷ Untaken ∷ Untaken ∷ Untaken ∷ [])  -- 2 request acknowledge received
+    ∷ (Untaken ∷ Failed ∷ Untaken ∷ Untaken ∷ Untaken ∷ [])  -- 3 preparation failure received
+    ∷ (Untaken ∷ Untaken ∷ Untaken ∷ StatusStored ∷ Untaken ∷ [])  -- 4 SN status transfer received
+    ∷ (Untaken ∷ Untaken ∷ Moved ∷ Untaken ∷ Untaken ∷ [])  -- 5 UE context release received
+    ∷ (Untaken ∷ Untaken ∷ Untaken ∷ CalledOff ∷ Untaken ∷ [])  -- 6 handover cancel received
+    ∷ (Untaken ∷ Reset ∷ Reset ∷ Reset ∷ Untaken ∷ [])  -- 7 reset request received
+    ∷ (Untaken ∷ Untaken ∷ Untaken ∷ Untaken ∷ Untaken ∷ [])  -- 8 reset response received
+    ∷ (Started ∷ Untaken ∷ Untaken ∷ Untaken ∷ Untaken ∷ [])  -- 9 start a handover
+    ∷ (Untaken ∷ Cancelled ∷ Cancelled ∷ Untaken ∷ Untaken ∷ [])  -- 10 cancel
+    ∷ (Untaken ∷ Untaken ∷ Untaken ∷ Arrived ∷ Untaken ∷ [])  -- 11 UE arrived
+    ∷ (Untaken ∷ Untaken ∷ Returned ∷ Untaken ∷ Untaken ∷ [])  -- 12 UE returned
+    ∷ (Untaken ∷ Untaken ∷ Untaken ∷ Untaken ∷ Left ∷ [])  -- 13 UE left
+    ∷ (Untaken ∷ Reset ∷ Reset ∷ Reset ∷ Untaken ∷ [])  -- 14 reset a neighbour
+    ∷ (Untaken ∷ Cancelled ∷ Overtime ∷ Lapsed ∷ Untaken ∷ [])  -- 15 tick
+    ∷ (Untaken ∷ Untaken ∷ Untaken ∷ Untaken ∷ Untaken ∷ [])  -- 16 bearer
+    ∷ (Untaken ∷ Untaken ∷ StatusSent ∷ Untaken ∷ Untaken ∷ [])  -- 17 send SN status
     ∷ []
 
-abbrev pub action_of : ℕ → ℕ → ℕ
-action_of kind state = get_or (get_or actions kind []) state 0
+abbrev pub action_of : ℕ → ℕ → Action
+action_of kind state = get_or (get_or actions kind []) state Untaken
+
+-- the number of an action: to 10 it is that of the ending, and 0 and 11 to 15 end nothing
+abbrev pub number_of : Action → ℕ
+number_of Untaken = 0
+number_of Failed = 1
+number_of Cancelled = 2
+number_of Moved = 3
+number_of Overtime = 4
+number_of Returned = 5
+number_of Lapsed = 6
+number_of CalledOff = 7
+number_of Arrived = 8
+number_of Left = 9
+number_of Reset = 10
+number_of Prepared = 11
+number_of StatusStored = 12
+number_of StatusSent = 13
+number_of Started = 14
+number_of Held = 15
+
+abbrev pub same_action : Action → Action → Bool
+same_action a b = sameb acts.the_type a b
 
 -- "7 and 14: all outgoing and held records of that neighbour end": whether a record does
 abbrev pub resets_by : (ℕ → ℕ) → Record → Entry → Bool
-resets_by by e r = keyed by e r && eqb (action_of e.kind r.state) 10
+resets_by by e r = keyed by e r && same_action (action_of e.kind r.state) Reset
 
 abbrev pub resets : Record → Entry → Bool
 resets e r = resets_by (key e.kind) e r
@@ -192,14 +216,16 @@ last_word e r =
     (cond (eqb e.kind 15 && eqb r.state 2) (message 20 r.neighbour r.old.0 r.new.0 0 0 0)
     (cond (eqb e.kind 12) (message 6 r.neighbour r.old.0 r.new.0 0 0 3) silence)))
 
--- the decision, given the deadline that an acknowledge would set
+-- the decision by the action, given the deadline that an acknowledge would set: "state does not take it"; prepared, a status stored
+-- or sent, if the lists or the set fit; a UE that arrived leaves a serving record, and the other endings none
+abbrev pub does : Action → Record → Entry → ℕ → Decision
+does Untaken e r deadline = refusal 6 r
+does Prepared e r deadline = cond (lists_fit r e) (decision 0 0 silence (prepared r e deadline)) (refusal 7 r)
+does StatusStored e r deadline = cond (set_fits r e) (decision 0 0 silence (stored r e)) (refusal 7 r)
+does StatusSent e r deadline =
+    cond (set_fits r e) (decision 0 0 (message 4 r.neighbour r.old.0 r.new.0 e.first 0 0) r) (refusal 7 r)
+does Arrived e r deadline = decision 0 8 (message 5 r.neighbour r.old.0 r.new.0 0 0 0) (serving r)
+does action e r deadline = decision 0 (number_of action) (last_word e r) blank
+
 abbrev pub decide : Record → Entry → ℕ → Decision
-decide e r deadline =
-    let action = action_of e.kind r.state in
-    cond (eqb action 0) (refusal 6 r)
-    (cond (eqb action 11) (cond (lists_fit r e) (decision 0 0 silence (prepared r e deadline)) (refusal 7 r))
-    (cond (eqb action 12) (cond (set_fits r e) (decision 0 0 silence (stored r e)) (refusal 7 r))
-    (cond (eqb action 13)
-    (cond (set_fits r e) (decision 0 0 (message 4 r.neighbour r.old.0 r.new.0 e.first 0 0) r) (refusal 7 r))
-    (cond (eqb action 8) (decision 0 8 (message 5 r.neighbour r.old.0 r.new.0 0 0 0) (serving r))
-    (decision 0 action (last_word e r) blank)))))
+decide e r deadline = does (action_of e.kind r.state) e r deadline

@@ -1,5 +1,6 @@
 -- Numbers of the station.
-use Rattle.std.specs.Prelude.{ℕ, zero, suc, ◌+◌, Bool, false, cond, ◌&&◌, ◌||◌, List, [], ◌∷◌, leb, eqb}
+use Rattle.std.specs.Prelude.{ℕ, zero, suc, ◌+◌, Bool, cond, ◌&&◌, ◌||◌, List, leb, eqb}
+use Rattle.std.specs.List.{list_any}
 use Rattle.handover.specs.declared.Entry.{Entry}
 
 -- "A record is outgoing (preparing, prepared) or incoming (held, serving)": the states are numbered 1 to 4 in this order,
@@ -67,11 +68,6 @@ own_is i r = is_outgoing r && eqb r.old.0 i || is_incoming r && eqb r.new.0 i
 abbrev pub own : Entry → ℕ
 own r = cond (is_outgoing r) r.old.0 r.new.0
 
--- whether a record of the table passes a test
-unfoldable pub any_of : (Entry → Bool) → List Entry → Bool
-any_of test [] = false
-any_of test (r ∷ rs) = test r || any_of test rs
-
 -- "each next is the first after the last issued, 4,095 being followed by 0, that no record of this station uses as its own"
 abbrev pub next_after : ℕ → ℕ
 next_after i = cond (eqb i 4095) 0 (i + 1)
@@ -79,4 +75,4 @@ next_after i = cond (eqb i 4095) 0 (i + 1)
 -- the search passes over so many numbers in use at the most: 64 are more than there can be
 unfoldable pub issue_from : ℕ → ℕ → List Entry → ℕ
 issue_from zero i rs = i
-issue_from (suc most) i rs = cond (any_of (own_is i) rs) (issue_from most (next_after i) rs) i
+issue_from (suc most) i rs = cond (list_any (own_is i) rs) (issue_from most (next_after i) rs) i

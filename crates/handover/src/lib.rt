@@ -6,7 +6,17 @@ pub mod numbers;
 
 use records::{NewId, OldId, Record};
 
-// A record of the table: 0 free, 1 preparing, 2 prepared, 3 held, 4 serving.
+// The states of a record; a free place of the table has none of the others. The state of an entry is any byte.
+#[derive(Clone, Copy)]
+pub enum State {
+    Free = 0,
+    Preparing = 1,
+    Prepared = 2,
+    Held = 3,
+    Serving = 4,
+}
+
+// A record of the table.
 #[derive(Clone, Copy)]
 pub struct Entry {
     pub state: u8,
@@ -18,6 +28,43 @@ pub struct Entry {
     pub status: u16,
     pub units: u32,
     pub deadline: u64,
+}
+
+// What a record does at an event: it does not take it, or comes to the ending of that number, or to something that is no ending.
+// A free place is where a record is started or held.
+#[derive(Clone, Copy, PartialEq, Eq)]
+pub enum Action {
+    Untaken = 0,
+    Failed = 1,
+    Cancelled = 2,
+    Moved = 3,
+    Overtime = 4,
+    Returned = 5,
+    Lapsed = 6,
+    CalledOff = 7,
+    Arrived = 8,
+    Left = 9,
+    Reset = 10,
+    Prepared = 11,
+    StatusStored = 12,
+    StatusSent = 13,
+    Started = 14,
+    Held = 15,
+}
+
+// The replies to a well-formed event, and that to settings out of range.
+#[derive(Clone, Copy)]
+pub enum Reply {
+    Done = 0,
+    NoRecord = 2,
+    Repeated = 3,
+    Full = 4,
+    NoneAdmitted = 5,
+    Untaken = 6,
+    Unfit = 7,
+    Early = 8,
+    NoneDue = 9,
+    BadSetting = 16,
 }
 
 // What an event does to the record it is about.

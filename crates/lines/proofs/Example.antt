@@ -4,11 +4,11 @@ use Rattle.laws.specs.Sums.{total}
 use Rattle.records.specs.Record.{little, record_of}
 use Rattle.records.specs.Stream as stream
 use Rattle.bearers.specs.Bearer.{records_in, all_bearers}
+use Rattle.bearers.specs.Flaws.{all_of_kind, flaw_from}
 use Rattle.bearers.specs.Admission.{those, turns_from, free_at, verdict}
 use Rattle.sets.specs.Sets as sets
-use Rattle.handover.specs.Numbers.{any_of, issue_from}
-use Rattle.places.specs.Places.{find_from}
-use Rattle.table.specs.Table.{due_from}
+use Rattle.handover.specs.Numbers.{issue_from}
+use Rattle.places.specs.Places.{due_from}
 use Rattle.lines.specs.Lines.{new_run, lines_in, lines_of}
 use Rattle.buffers.specs.Digits.{size_in, digits, spaced}
 
@@ -46,5 +46,5 @@ output =
 
 -- By computation.
 pub worked_lines : lines_of new_run input ≡ output
-unfolding lines_in size_in digits spaced little record_of stream.bearers_in records_in all_bearers total those turns_from free_at verdict sets.add sets.set_of any_of issue_from find_from due_from
+unfolding lines_in size_in digits spaced little record_of stream.bearers_in records_in all_bearers all_of_kind flaw_from total those turns_from free_at verdict sets.add sets.set_of issue_from due_from
 worked_lines = refl

@@ -12,12 +12,22 @@ use answers::{Outcome, quiet};
 use bearers::MOST;
 use buffers::digits::{size, spell};
 use records::stream::{Piece, cut};
-use records::{Read, Record, SIZE};
-use std::num::wrapping_add_u64;
+use records::{Kind, Record, SIZE};
 use table::{Answer, Settings, Station};
 
 // The longest line: eleven numbers of at most 20 digits, and a byte after each.
 pub const LONGEST: usize = 231;
+
+// The reply to fewer bytes than a record has.
+const SHORT_PIECE: u8 = 14;
+
+// The settings of the station program.
+const SETTINGS: Settings = Settings {
+    capacity: 100,
+    prep: 50,
+    overall: 2000,
+    guard: 3000,
+};
 
 // A station at work on a stream, and the place of the next event, from 1.
 #[derive(Clone, Copy)]
@@ -41,26 +51,25 @@ fn cell(n: u64, after: u8, out: &mut [u8], at: usize) -> usize
     ensures { Writes out.old out.new at (cell_of n after) result }
 {
     if n < 10 {
-        out[at] = 48 + n as u8;
-        let end = at + 1;
-        out[end] = after;
-        return end + 1;
+        out[at] = b'0' + n as u8;
+        out[at + 1] = after;
+        return at + 2;
     }
     let k = size(n);
-    spell(n, k, out, at);
     let end = at + k;
+    spell(n, k, out, at);
     out[end] = after;
     end + 1
 }
 
-// Writes ten numbers with a space after each from a place on, and answers the next place.
-fn cells(numbers: [u64; 10], out: &mut [u8], at: usize) -> usize
-    requires { (length numbers ≡ 10) × (at + 10 * cell_room ≤ length out.old) }
-    ensures { Writes out.old out.new at (spaced numbers) result }
+// Writes numbers with a space after each from a place on, and answers the next place.
+fn cells(numbers: &[u64], out: &mut [u8], at: usize) -> usize
+    requires { at + length numbers.now * cell_room ≤ length out.old }
+    ensures { Writes out.old out.new at (spaced numbers.now) result }
 {
     let mut place = at;
-    for i in 0..10usize {
-        place = cell(numbers[i], 32, out, place);
+    for n in numbers {
+        place = cell(*n, b' ', out, place);
     }
     place
 }
@@ -71,29 +80,27 @@ fn line(place: u64, o: Outcome, out: &mut [u8], at: usize) -> usize
     ensures { Writes out.old out.new at (line_of place o) result }
 {
     let m = o.message;
-    let old = m.old;
-    let new = m.new;
     let numbers = [
         place,
         o.reply as u64,
         m.kind as u64,
         m.neighbour as u64,
-        old.0 as u64,
-        new.0 as u64,
+        m.old.0 as u64,
+        m.new.0 as u64,
         m.first as u64,
         m.second as u64,
         o.ending as u64,
         o.offset as u64,
     ];
-    let next = cells(numbers, out, at);
-    cell(o.place as u64, 10, out, next)
+    let next = cells(&numbers, out, at);
+    cell(o.place as u64, b'\n', out, next)
 }
 
 // Whether what stands at the front of some bytes is an event: whatever comes after them, or because nothing does.
 fn is_whole(piece: Piece, ended: bool) -> bool
     ensures { result ≡ is_whole ended piece }
 {
-    piece.whole | (ended & (0 < piece.size))
+    piece.whole || ended && 0 < piece.size
 }
 
 // A station's answer to the bytes of one event, a record and the bearer records that it takes, or fewer bytes than a record has: a
@@ -102,19 +109,14 @@ pub fn answered(station: Station, event: &[u8], verdicts: &mut [u8]) -> Answer
     requires { Reached station }
     ensures { (result ≡ answer_to (length verdicts.old) station event.now) × (verdicts.new ≡ verdicts_to station event.now verdicts.old) × Reached result.station }
 {
-    let read = Record::read(event, 0);
-    match read {
-        Read::Nothing => Answer {
-            outcome: quiet(14),
+    match Record::read(event, 0) {
+        None => Answer {
+            outcome: quiet(SHORT_PIECE),
             station,
         },
-        Read::Whole(r) => {
-            if r.kind == 1 {
-                return station.request(r, &event[SIZE..], verdicts);
-            }
-            // `request` would answer the same, with one copy of the station more
-            station.step(r)
-        }
+        Some(r) if r.kind == Kind::Request as u8 => station.request(r, &event[SIZE..], verdicts),
+        // `request` would answer the same, with one copy of the station more
+        Some(r) => station.step(r),
     }
 }
 
@@ -123,14 +125,7 @@ impl Run {
     pub fn new() -> Run
         ensures { (result ≡ new_run) × Reached result.station }
     {
-        let settings = Settings {
-            capacity: 100,
-            prep: 50,
-            overall: 2000,
-            guard: 3000,
-        };
-        let birth = Station::new(settings);
-        let station = birth.station;
+        let station = Station::new(SETTINGS).station;
         Run { station, place: 1 }
     }
 
@@ -156,7 +151,7 @@ impl Run {
             let before = last.station;
             last = answered(before, &bytes[taken..end], &mut verdicts);
             written = line(place, last.outcome, out, written);
-            place = wrapping_add_u64(place, 1);
+            place = place.wrapping_add(1);
             taken = end;
             piece = cut(&bytes[taken..]);
         }

@@ -5,7 +5,7 @@ use mathlib.Core.Path.{◌≡◌, refl, sym, ap, ◌∙◌}
 use mathlib.Core.Bool.{false, true≢false}
 use mathlib.Core.List.{List, [], ◌∷◌}
 use mathlib.Core.Logic.{⊎_elim}
-use mathlib.Core.Option.{none, some}
+use Rattle.std.specs.Prelude.{Some, None}
 use borrow.Author.Rules.{rules}
 use borrow.Author.Tests.{le-ltb}
 use native.Mathlib.Omega.{arith}
@@ -117,7 +117,7 @@ module _ (peer : Side → ℕ) where
   at_last w s = step_of (w.station s) last_tick [] 0
 
   abbrev ticked : World → Side → World
-  ticked w s = act peer w s last_tick (at_last w s) none (w.queue (other s))
+  ticked w s = act peer w s last_tick (at_last w s) None (w.queue (other s))
 
   module _ (w : World) (ready : Ready w) (s : Side) where
     laws : StepLaws (w.station s) last_tick (at_last w s)
@@ -130,7 +130,7 @@ module _ (peer : Side → ℕ) where
     recent : Bounded (ticked w s)
     recent r q =
         let a = at_last w s in
-        let sent_last = marked a (w.numbers s) none (w.fixed_for (other s)) (λ t. (issued_after w s a t).issued_count) in
+        let sent_last = marked a (w.numbers s) None (w.fixed_for (other s)) (λ t. (issued_after w s a t).issued_count) in
         let just : (issued_after w s (at_last w s) q).issued_count < (issued_after w s (at_last w s) q).issued_count + limit = omega arith in
         on_sides (λ t (messages : List Envelope). All (WithinLimit q (issued_after w s (at_last w s) q)) messages) s {there = w.queue (other s)}
         (all_posted (peer s) sent_last (w.queue s) (rw (ready.empty s) nothing) (λ t. just)) (rw (ready.empty (other s)) nothing) r
@@ -140,14 +140,14 @@ module _ (peer : Side → ℕ) where
         record {
           range = last_small;
           answers = record { bearers = []; room = 0; stepped = refl };
-          taken = none;
+          taken = None;
           rest = w.queue (other s);
           comes = own refl;
           becomes = refl;
         }
 
     -- No deadline is new.
-    due_before : (i d : ℕ) → due (at_last w s).station (peer s) i ≡ some d → due (w.station s) (peer s) i ≡ some d
+    due_before : (i d : ℕ) → due (at_last w s).station (peer s) i ≡ Some d → due (w.station s) (peer s) i ≡ Some d
     due_before i d now =
         ⊎_elim (λ was. was)
         (⊎_elim (λ one. absurd (true≢false (sym one ∙ no_request)))
@@ -156,7 +156,7 @@ module _ (peer : Side → ℕ) where
 
     still_past : (r : Side) → Past peer (ticked w s) r last_time
     still_past =
-        on_sides (λ r (x : Station). (i d : ℕ) → due x (peer r) i ≡ some d → d ≤ last_time) s (λ i d now. ready.past s i d (due_before i d now)) (ready.past (other s))
+        on_sides (λ r (x : Station). (i d : ℕ) → due x (peer r) i ≡ Some d → d ≤ last_time) s (λ i d now. ready.past s i d (due_before i d now)) (ready.past (other s))
 
   -- It is a step in which nothing starts; then what it sent is lost.
   record Once (s : Side) (w : World) : Type 0 where

@@ -4,7 +4,7 @@
 use Prim.Native.Nat.{ℕ, ◌+◌, ◌≤◌, ◌<◌}
 use mathlib.Core.Path.{◌≡◌, refl, sym, ap, ◌∙◌}
 use mathlib.Core.List.{List}
-use mathlib.Core.Option.{Option, none, some}
+use Rattle.std.specs.Prelude.{Option, Some, None}
 use borrow.Author.Tests.{eqb-true, eqb-false, ne_eqb, le-ltb}
 use store.Seg.{eqb_same}
 use native.Mathlib.Omega.{arith}
@@ -69,12 +69,12 @@ LedgerOf x n = (i : ℕ) → 1 ≤ n.issue_of i → n.issue_of i + 4033 + ahead 
 
 -- The own IDs of the issues that there were stay.
 pub number_kept : (n : Numbers) (new : Option ℕ) (h : ℕ) → h ≤ n.issued_count → (issuing new n).number_of h ≡ n.number_of h
-number_kept n none h past = refl
-number_kept n (some j) h past = rw (ne_eqb h (n.issued_count + 1) (λ same. omega arith))
+number_kept n None h past = refl
+number_kept n (Some j) h past = rw (ne_eqb h (n.issued_count + 1) (λ same. omega arith))
 
 pub count_grows : (n : Numbers) (new : Option ℕ) → n.issued_count ≤ (issuing new n).issued_count
-count_grows n none = omega arith
-count_grows n (some j) = omega arith
+count_grows n None = omega arith
+count_grows n (Some j) = omega arith
 
 -- What a step issues, if it does (`new`); what it did before.
 module _ {x : Station} {a : Answer} (n : Numbers) where
@@ -84,15 +84,15 @@ module _ {x : Station} {a : Answer} (n : Numbers) where
       let k = known j was in
       (searched new.room laws.range.1 j (n.issue_of j) n.issued_count k.2 k.0 laws.range.0 new.walk (ledger j was)).0 refl
 
-  pub used_kept : (new : Option ℕ) → ((j : ℕ) → new ≡ some j → Issues j x a) → (new ≡ none → IssuesNone x a) → UsedOf x n → UsedOf a.station (issuing new n)
-  used_kept none one idle used i there = used i (omega (arith, (idle refl).fewer (eqb i)))
-  used_kept (some j) one idle used i there =
+  pub used_kept : (new : Option ℕ) → ((j : ℕ) → new ≡ Some j → Issues j x a) → (new ≡ None → IssuesNone x a) → UsedOf x n → UsedOf a.station (issuing new n)
+  used_kept None one idle used i there = used i (omega (arith, (idle refl).fewer (eqb i)))
+  used_kept (Some j) one idle used i there =
       by_cases (eqb i j) (λ t. rw t (omega arith))
       (λ t. rw t (used i (let more = rw t at ((one j refl).more (eqb i)) in omega arith)))
 
-  pub issued_kept : (new : Option ℕ) → ((j : ℕ) → new ≡ some j → Issues j x a) → Laws x → IssuedOf n → IssuedOf (issuing new n)
-  issued_kept none one laws known i = known i
-  issued_kept (some j) one laws known i =
+  pub issued_kept : (new : Option ℕ) → ((j : ℕ) → new ≡ Some j → Issues j x a) → Laws x → IssuedOf n → IssuedOf (issuing new n)
+  issued_kept None one laws known i = known i
+  issued_kept (Some j) one laws known i =
       by_cases (eqb i j)
       (λ t.
       let same = eqb-true i j t in
@@ -102,12 +102,12 @@ module _ {x : Station} {a : Answer} (n : Numbers) where
       let k = known i was in
       (omega arith, rw (ne_eqb (n.issue_of i) (next_issue n) (λ same. omega arith)) k.1, k.2)))
 
-  pub ledger_kept : (new : Option ℕ) → ((j : ℕ) → new ≡ some j → Issues j x a) → (new ≡ none → IssuesNone x a) → Laws x → IssuedOf n → LedgerOf x n
+  pub ledger_kept : (new : Option ℕ) → ((j : ℕ) → new ≡ Some j → Issues j x a) → (new ≡ None → IssuesNone x a) → Laws x → IssuedOf n → LedgerOf x n
       → LedgerOf a.station (issuing new n)
-  ledger_kept none one idle laws known ledger i =
+  ledger_kept None one idle laws known ledger i =
       let law = idle refl in
       rw law.latest (λ was. omega (arith, ledger i was, law.fewer (λ y. ltb (distance (last x) y) (distance (last x) i))))
-  ledger_kept (some j) one idle laws known ledger i =
+  ledger_kept (Some j) one idle laws known ledger i =
       let law = one j refl in
       let below = walk_below laws.range.0 law.walk in
       let more = law.more (λ y. ltb (distance j y) (distance j i)) in
@@ -127,10 +127,10 @@ module _ {x : Station} {a : Answer} (n : Numbers) where
       omega arith)))
 
   -- One that was issued fewer than 4,033 issues ago is not the one that is issued.
-  pub not_again : (new : Option ℕ) → ((j : ℕ) → new ≡ some j → Issues j x a) → Laws x → IssuedOf n → LedgerOf x n → (i : ℕ) → 1 ≤ n.issue_of i
+  pub not_again : (new : Option ℕ) → ((j : ℕ) → new ≡ Some j → Issues j x a) → Laws x → IssuedOf n → LedgerOf x n → (i : ℕ) → 1 ≤ n.issue_of i
       → (issuing new n).issued_count < n.issue_of i + 4033 → (issuing new n).issue_of i ≡ n.issue_of i
-  not_again none one laws known ledger i was recent = refl
-  not_again (some j) one laws known ledger i was recent =
+  not_again None one laws known ledger i was recent = refl
+  not_again (Some j) one laws known ledger i was recent =
       by_cases (eqb i j)
       (λ t.
       let again = reissue laws known ledger i (rw (eqb-true i j t) (one j refl)) was in
@@ -138,9 +138,9 @@ module _ {x : Station} {a : Answer} (n : Numbers) where
       (λ t. rw t)
 
   -- Nor is one that is in use.
-  pub in_use_lem : (new : Option ℕ) → ((j : ℕ) → new ≡ some j → Issues j x a) → (i : ℕ) → 1 ≤ times i (ids x) → (issuing new n).issue_of i ≡ n.issue_of i
-  in_use_lem none one i there = refl
-  in_use_lem (some j) one i there =
+  pub in_use_lem : (new : Option ℕ) → ((j : ℕ) → new ≡ Some j → Issues j x a) → (i : ℕ) → 1 ≤ times i (ids x) → (issuing new n).issue_of i ≡ n.issue_of i
+  in_use_lem None one i there = refl
+  in_use_lem (Some j) one i there =
       by_cases (eqb i j)
       (λ t. absurd (omega (arith, walk_free (one j refl).walk, rw (eqb-true i j t) at there)))
       (λ t. rw t)

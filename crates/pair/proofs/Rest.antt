@@ -4,7 +4,7 @@ use mathlib.Core.Path.{◌≡◌, refl, sym, ◌∙◌}
 use mathlib.Core.Bool.{true, false, true≢false, false≢true}
 use mathlib.Core.List.{List, [], ◌∷◌}
 use mathlib.Core.Logic.{◌⊎◌, inl, inr, ⊎_elim}
-use mathlib.Core.Option.{Option, some}
+use Rattle.std.specs.Prelude.{Option, Some}
 use borrow.Author.Tests.{eqb-true, eqb-false, ne_eqb}
 use native.Mathlib.Omega.{arith}
 use lib.Dec.{eqb}
@@ -98,7 +98,7 @@ module _ (peer : Side → ℕ) where
       (w.fixed_for s number, for.0, refl, for.2, for.1)
 
   -- Where no record of the other station has a deadline there is none: every one has.
-  at_rest : {w : World} → Good peer w → (s : Side) → ((i d : ℕ) → due (w.station s) (peer s) i ≡ some d → ⊥) → AtRest peer w s
+  at_rest : {w : World} → Good peer w → (s : Side) → ((i d : ℕ) → due (w.station s) (peer s) i ≡ Some d → ⊥) → AtRest peer w s
   at_rest {w} good s never =
       record {
         no_reservation = λ i. no_held (held (w.station s) (peer s) i) (λ there. none i (inr there));
@@ -128,7 +128,7 @@ module _ (peer : Side → ℕ) where
   -- After such steps that is still so, and no record of the other station has got a deadline.
   record Calmly (v w : World) : Type 0 where
     calm : Calm w
-    due_before : (s : Side) (i d : ℕ) → due (w.station s) (peer s) i ≡ some d → due (v.station s) (peer s) i ≡ some d
+    due_before : (s : Side) (i d : ℕ) → due (w.station s) (peer s) i ≡ Some d → due (v.station s) (peer s) i ≡ Some d
 
   module _ (w : World) (calm : Calm w) (s : Side) (e : Record) (a : Answer) (taken : Option Envelope) (rest : List Envelope)
       (step : StepLaws (w.station s) e a) (comes : Comes (peer s) e (w.queue (other s)) taken rest) (no_request : to 1 (peer s) a ≡ false) where
@@ -156,7 +156,7 @@ module _ (peer : Side → ℕ) where
         (λ v. true≢false (sym (posted_to (peer s) a 2 t (eqb-true (sent a).kind 2 v)) ∙ no_acknowledge))
         (λ v. true≢false (sym (posted_to (peer s) a 3 t (omega (arith, eqb-false (sent a).kind 1 u, eqb-false (sent a).kind 2 v))) ∙ no_failure)))
 
-    acted_due : (i d : ℕ) → due a.station (peer s) i ≡ some d → due (w.station s) (peer s) i ≡ some d
+    acted_due : (i d : ℕ) → due a.station (peer s) i ≡ Some d → due (w.station s) (peer s) i ≡ Some d
     acted_due i d now =
         ⊎_elim (λ was. was)
         (⊎_elim (λ one. absurd (true≢false (sym one ∙ no_request)))
@@ -168,7 +168,7 @@ module _ (peer : Side → ℕ) where
     acted_calmly =
         record {
           calm = on_sides (λ r messages. Quiet messages) s (all_posted (peer s) _ (w.queue s) (calm s) none_sent) (left comes (calm (other s)));
-          due_before = on_sides (λ r x. (i d : ℕ) → due x (peer r) i ≡ some d → due (w.station r) (peer r) i ≡ some d) s acted_due (λ i d now. now);
+          due_before = on_sides (λ r x. (i d : ℕ) → due x (peer r) i ≡ Some d → due (w.station r) (peer r) i ≡ Some d) s acted_due (λ i d now. now);
         }
 
   module _ {w : World} (good : Good peer w) (calm : Calm w) where

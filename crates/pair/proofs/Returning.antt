@@ -5,7 +5,7 @@ use mathlib.Core.Path.{◌≡◌, refl, sym, ap, ◌∙◌}
 use mathlib.Core.Bool.{true, false, ◌&&◌, false≢true}
 use mathlib.Core.List.{List, [], ◌∷◌, ◌++◌}
 use mathlib.Core.Logic.{◌⊎◌, inl, inr, ⊎_elim}
-use mathlib.Core.Option.{Option, some}
+use Rattle.std.specs.Prelude.{Option, Some}
 use borrow.Author.Tests.{eqb-true, eqb-false, eq-eqb}
 use store.Seg.{eqb_same}
 use native.Mathlib.Omega.{arith}
@@ -227,7 +227,7 @@ module _ {s : Side} {d : Direction} (e : Record) (a : Answer) (taken : Option En
 answer_cancel : {x : Station} {e : Record} {a : Answer} → Reached x → Answers x e a → (sent a).kind ≡ 6 → CancelOf x (sent a)
 answer_cancel {e = e} reached y = rw y.stepped (cancel_sent reached e y.bearers y.room)
 
-took_tag : {taken : Option Envelope} {m : Envelope} {h : ℕ} → taken ≡ some m → kind_of m ≡ 6 → m.tag ≡ h → took 6 h taken ≡ true
+took_tag : {taken : Option Envelope} {m : Envelope} {h : ℕ} → taken ≡ Some m → kind_of m ≡ 6 → m.tag ≡ h → took 6 h taken ≡ true
 took_tag {m = m} {h} is kind belongs = rw (is, eq-eqb (kind_of m) 6 kind, eq-eqb m.tag h belongs)
 
 module _ (peer : Side → ℕ) where

@@ -4,7 +4,7 @@ use Prim.Native.Nat.{ℕ, zero, suc, ◌/◌, ◌+◌, ◌^◌, ◌<◌}
 use mathlib.Core.Path.{◌≡◌, refl, sym, ap, ◌∙◌}
 use mathlib.Core.Bool.{Bool, true, false, cond, not, ◌&&◌, false≢true}
 use mathlib.Core.List.{List, [], ◌∷◌}
-use mathlib.Core.Option.{none, some}
+use Rattle.std.specs.Prelude.{Some, None}
 use borrow.Author.Rules.{rules}
 use borrow.Author.Tests.{eqb-true, eq-eqb, ltb-true, not-true}
 use native.Mathlib.Omega.{arith}
@@ -15,15 +15,15 @@ use Rattle.laws.specs.Sums.{total}
 use Rattle.laws.proofs.Tests.{by_cases, both_true, every}
 use Rattle.records.specs.Record.{little, record_of, InRange}
 use Rattle.records.specs.declared.Record.{Record}
+use Rattle.bearers.specs.Flaws.{all_of_kind, flaw_from}
 use Rattle.bearers.specs.Admission.{those, turns_from, free_at, verdict}
 use Rattle.bearers.specs.Bearer.{records_in, all_bearers}
 use Rattle.sets.specs.Sets.{add, set_of}
 use Rattle.promises.specs.Cases.{numbered}
 use Rattle.handover.specs.Events.{message}
-use Rattle.handover.specs.Numbers.{any_of, issue_from}
+use Rattle.handover.specs.Numbers.{issue_from}
 use Rattle.table.specs.Step.{step_of}
-use Rattle.places.specs.Places.{find_from}
-use Rattle.table.specs.Table.{due_from}
+use Rattle.places.specs.Places.{due_from}
 use Rattle.promises.specs.Views.{named, out, held, due}
 use Rattle.pair.proofs.Lists.{all_pass}
 use Rattle.pair.specs.World.{Side, A, B, other, Numbers, Envelope, World, act, as_sent, Carries, request, plain, is_message, own, take, All, nothing, more, Bounded, with_queue, Acts, Loses, Step, acts, loses, next, Run, limit}
@@ -64,20 +64,20 @@ module _ (peer : Side → ℕ) where
   hearing w s bearers [] = w
   hearing w s bearers (m ∷ rest) =
       let e = arriving (peer s) bearers m.message in
-      act peer w s e (step_of (w.station s) e bearers 256) (some m) rest
+      act peer w s e (step_of (w.station s) e bearers 256) (Some m) rest
 
   abbrev pub missing : World → Side → ℕ → List Envelope → World
   missing w s n queue = with_queue w (other s) (without n queue)
 
   -- the world after a move
   abbrev pub after : World → Move → World
-  after w (gets s e bearers) = act peer w s e (step_of (w.station s) e bearers 256) none (w.queue (other s))
+  after w (gets s e bearers) = act peer w s e (step_of (w.station s) e bearers 256) None (w.queue (other s))
   after w (hears s bearers) = hearing w s bearers (w.queue (other s))
   after w (misses_after s n) = missing w s n (w.queue (other s))
 
   -- and after all moves of a script; whatever a step says unfolds with it
   unfoldable pub played : World → List Move → World
-  unfolding find_from issue_from any_of due_from total ones_in ones little record_of those turns_from free_at verdict records_in all_bearers set_of add named out held due
+  unfolding issue_from due_from total ones_in ones little record_of those turns_from free_at verdict records_in all_bearers all_of_kind flaw_from set_of add named out held due
   played w [] = w
   played w (m ∷ ms) = played (after w m) ms
 
@@ -155,7 +155,7 @@ module _ (peer : Side → ℕ) where
       (record {
         range = in_range_lem e t;
         answers = record { bearers = bearers; room = 256; stepped = refl };
-        taken = some m;
+        taken = Some m;
         rest = rest;
         comes = take [] rest refl q (carries (peer s) bearers m.message);
         becomes = refl;
@@ -171,7 +171,7 @@ module _ (peer : Side → ℕ) where
       record {
         range = in_range_lem e both.1;
         answers = record { bearers = bearers; room = 256; stepped = refl };
-        taken = none;
+        taken = None;
         rest = w.queue (other s);
         comes = own (not-true (is_message (peer s) e) both.0);
         becomes = refl;

@@ -1,9 +1,9 @@
 -- The end of a script: nothing is under way, and both clocks are ticked past every deadline until none is due, by a test that is computed.
-use Prim.Native.Nat.{ℕ, ◌+◌, ◌≤◌}
+use Prim.Native.Nat.{ℕ, ◌≤◌}
 use mathlib.Core.Path.{◌≡◌, refl}
 use mathlib.Core.Bool.{Bool, true, false, not, ◌&&◌, false≢true}
 use mathlib.Core.List.{List, [], ◌∷◌}
-use mathlib.Core.Option.{none, some}
+use Rattle.std.specs.Prelude.{Option, Some, None}
 use borrow.Author.Tests.{eqb-true, leb-true, le-leb, not-true}
 use native.Mathlib.Omega.{arith}
 use lib.Dec.{leb, eqb}
@@ -13,7 +13,6 @@ use Rattle.records.specs.declared.Record.{Record}
 use Rattle.promises.specs.Cases as cases
 use Rattle.handover.specs.Numbers.{blank, own_is}
 use Rattle.table.specs.Step.{step_of}
-use Rattle.places.specs.Places.{find_from}
 use Rattle.table.specs.Table.{find}
 use Rattle.promises.specs.Views.{record_at, named, due_of, due, to}
 use Rattle.table.specs.declared.Answer.{Answer}
@@ -45,25 +44,21 @@ abbrev pub all_by : ℕ → List Entry → Bool
 all_by time = every (λ i r. leb r.deadline time)
 
 -- then so is that of the record found, whichever it is
-by_found : (time : ℕ) (s : Station) → all_by time s.entries ≡ true → (test : Entry → Bool) (i : ℕ) (rs : List Entry)
-    → (record_at (find_from test i rs) s).deadline ≤ time
-unfolding find_from
-by_found time s t test i [] = omega arith
-by_found time s t test i (r ∷ rs) =
-    by_cases (test r)
-    (λ h. rw h (leb-true (get_or s.entries i blank).deadline time (every_at (λ j x. leb x.deadline time) s.entries blank i t (λ j. le-leb 0 time (omega arith)))))
-    (λ h. rw h (by_found time s t test (i + 1) rs))
+by_found : (time : ℕ) (s : Station) → all_by time s.entries ≡ true → (found : Option ℕ) → (record_at found s).deadline ≤ time
+by_found time s t None = omega arith
+by_found time s t (Some i) =
+    leb-true (get_or s.entries i blank).deadline time (every_at (λ j x. leb x.deadline time) s.entries blank i t (λ j. le-leb 0 time (omega arith)))
 
-due_by_lem : (time : ℕ) (s : Station) → all_by time s.entries ≡ true → (p i d : ℕ) → due s p i ≡ some d → d ≤ time
+due_by_lem : (time : ℕ) (s : Station) → all_by time s.entries ≡ true → (p i d : ℕ) → due s p i ≡ Some d → d ≤ time
 unfolding due named
 due_by_lem time s t p i d timed =
-    go (record_at (find (own_is i) s) s) timed (by_found time s t (own_is i) 0 s.entries)
+    go (record_at (find (own_is i) s) s) timed (by_found time s t (find (own_is i) s))
   where
-    go : (r : Entry) → due_of p r ≡ some d → r.deadline ≤ time → d ≤ time
+    go : (r : Entry) → due_of p r ≡ Some d → r.deadline ≤ time → d ≤ time
     go r timed by =
         by_cases (leb 1 r.state && leb r.state 3 && eqb r.neighbour p)
-        (λ h. let this : some r.deadline ≡ some d = rw h at timed in let same : r.deadline ≡ d = cc in omega arith)
-        (λ h. let never : none ≡ some d = rw h at timed in clash (cc))
+        (λ h. let this : Some r.deadline ≡ Some d = rw h at timed in let same : r.deadline ≡ d = cc in omega arith)
+        (λ h. let never : None ≡ Some d = rw h at timed in clash (cc))
 
 module _ (peer : Side → ℕ) where
   abbrev pub at_tick : World → Side → ℕ → Answer

@@ -5,7 +5,7 @@ use mathlib.Core.Path.{◌≡◌, refl, sym, ap, ◌∙◌}
 use mathlib.Core.Bool.{Bool, true, false, not, ◌&&◌, true≢false, false≢true, and-false, or-true}
 use mathlib.Core.List.{List, [], ◌∷◌, nil≢cons}
 use mathlib.Core.Logic.{◌⊎◌, inl, inr, ⊎_elim}
-use mathlib.Core.Option.{Option}
+use Rattle.std.specs.Prelude.{Option}
 use borrow.Author.Tests.{eqb-true, eqb-false, eq-eqb, not-true, leb-true, leb-false}
 use store.Seg.{eqb_same}
 use native.Mathlib.Omega.{arith}

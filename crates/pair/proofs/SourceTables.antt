@@ -5,7 +5,7 @@ use mathlib.Core.Path.{◌≡◌, sym, ap, ◌∙◌, subst}
 use mathlib.Core.Bool.{true}
 use mathlib.Core.List.{List, []}
 use mathlib.Core.Logic.{⊎_elim}
-use mathlib.Core.Option.{Option, some}
+use Rattle.std.specs.Prelude.{Option, Some}
 use native.Mathlib.Omega.{arith}
 use Rattle.records.specs.declared.Record.{Record}
 use Rattle.table.specs.declared.Answer.{Answer}
@@ -38,7 +38,7 @@ module _ {s : Side} {d : Direction} {e : Record} {a : Answer} {taken : Option En
       all_both each (left x.comes inv.release_prepared) (left_behind x.comes inv.order)
     where
       each : (m : Envelope) → (kind_of m ≡ 5 → (set : ℕ) → outgoing d (old_of m) ≡ Prepared (new_of m) set → m.tag ≡ d.numbers.issue_of (old_of m))
-          → ((first : Envelope) → taken ≡ some first → kind_of first ≡ 2 → kind_of m ≡ 5 → old_of first ≡ old_of m → new_of first ≡ new_of m → first.tag ≡ m.tag)
+          → ((first : Envelope) → taken ≡ Some first → kind_of first ≡ 2 → kind_of m ≡ 5 → old_of first ≡ old_of m → new_of first ≡ new_of m → first.tag ≡ m.tag)
           → kind_of m ≡ 5 → (set : ℕ) → outgoing (after x) (old_of m) ≡ Prepared (new_of m) set → m.tag ≡ (after x).numbers.issue_of (old_of m)
       each m before behind kind set is =
           ⊎_elim

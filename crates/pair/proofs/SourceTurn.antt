@@ -1,7 +1,7 @@
 -- A turn of the source keeps the invariant of the direction: clause by clause.
 use Prim.Native.Nat.{ℕ}
 use mathlib.Core.List.{List}
-use mathlib.Core.Option.{Option}
+use Rattle.std.specs.Prelude.{Option}
 use Rattle.records.specs.declared.Record.{Record}
 use Rattle.table.specs.declared.Answer.{Answer}
 use Rattle.promises.specs.Views.{issued}

@@ -4,7 +4,7 @@ use Prim.Native.Nat.{ℕ, zero, suc, ◌+◌, ◌-◌, ◌≤◌, ◌<◌}
 use mathlib.Core.Path.{◌≡◌, refl, sym, ap, ◌∙◌}
 use mathlib.Core.Bool.{Bool, true, false, cond, not, ◌&&◌, ◌||◌}
 use mathlib.Core.List.{List, [], ◌∷◌, append-nil}
-use mathlib.Core.Option.{none, some}
+use Rattle.std.specs.Prelude.{Some, None}
 use borrow.Author.Rules.{rules}
 use borrow.Author.Tests.{ne_eqb}
 use store.Seg.{eqb_same}
@@ -17,14 +17,12 @@ use Rattle.records.specs.Record.{InRange}
 use Rattle.records.specs.declared.Record.{Record}
 use Rattle.handover.specs.declared.Entry.{Entry}
 use Rattle.table.specs.declared.Answer.{Answer}
-use Rattle.places.specs.declared.Found.TheVariants.{At, Nothing}
 use Rattle.table.specs.declared.Station.{Station}
 use Rattle.handover.specs.Events.{message, about}
-use Rattle.handover.specs.Numbers.{is_free, blank, preparing, own_is, any_of, issue_from}
+use Rattle.handover.specs.Numbers.{is_free, blank, preparing, own_is, issue_from}
 use Rattle.fields.proofs.Forms.{used_in_range}
 use Rattle.handover.proofs.Issuing.{issue_free}
 use Rattle.table.specs.Step.{answer, step_of, issue}
-use Rattle.places.specs.Places.{find_from}
 use Rattle.table.specs.Table.{find, holding}
 use Rattle.promises.proofs.Rows.{row_step, start_step}
 use Rattle.promises.specs.Views.{NotOut, some_out, out_of, out, named, sent, to, ending, issued}
@@ -71,7 +69,7 @@ module _ (peer : Side → ℕ) where
   module _ (w : World) (s : Side) (e : Record) (a : Answer) (unsent : is_message (peer s) (sent a) ≡ false)
       (no_request : to 1 (peer s) a ≡ false) (no_acknowledge : to 2 (peer s) a ≡ false) (no_arrival : eqb e.kind 11 ≡ false)
       (same : (j : ℕ) → out a.station (peer s) j ≡ out (w.station s) (peer s) j) where
-    source_same : (h : ℕ) → at_source (peer s) (w.station s) a none (w.numbers s) h (w.handovers s h) ≡ w.handovers s h
+    source_same : (h : ℕ) → at_source (peer s) (w.station s) a None (w.numbers s) h (w.handovers s h) ≡ w.handovers s h
     source_same h =
         let k = w.handovers s h in
         let n = w.numbers s in
@@ -82,14 +80,14 @@ module _ (peer : Side → ℕ) where
         let endings = on_false (was && not is) (ending a ∷ k.endings) k.endings stays in
         λ i. record { asked = asked i; answer = k.answer; arrived = k.arrived; released_while_prepared = or-false k.released_while_prepared i; endings = endings i }
 
-    target_same : (h : ℕ) → at_target (peer s) (w.station s) e a none (w.fixed_for (other s)) h (w.handovers (other s) h) ≡ w.handovers (other s) h
+    target_same : (h : ℕ) → at_target (peer s) (w.station s) e a None (w.fixed_for (other s)) h (w.handovers (other s) h) ≡ w.handovers (other s) h
     target_same h =
         let k = w.handovers (other s) h in
         let arrived : (k.arrived || arrives_for (peer s) (w.station s) e a (w.fixed_for (other s)) h) ≡ k.arrived = rw no_arrival (or-false k.arrived) in
         λ i. record { asked = k.asked; answer = k.answer; arrived = arrived i; released_while_prepared = k.released_while_prepared; endings = k.endings }
 
     -- So the step leaves the world so.
-    pub unheard : act peer w s e a none (w.queue (other s)) ≡ apart w s a
+    pub unheard : act peer w s e a None (w.queue (other s)) ≡ apart w s a
     unheard =
         same_world (λ r. refl)
         (on_sides (λ r (q : List Envelope). q ≡ w.queue r) s (rw unsent (append-nil (w.queue s))) refl)
@@ -125,14 +123,12 @@ module _ (r : Entry) (x : Station) where
 
   module _ (zero_own : First r) where
     next_free : (i : ℕ) → i < 4095 → issue (alone i) ≡ suc i
-    unfolding any_of
     next_free i h =
         ap (λ (b : Bool). issue_from 64 (cond b 0 (i + 1)) (alone 0).entries) (ne_eqb i 4095 (λ e. omega arith))
         ∙ ap (λ (n : ℕ). issue_from 64 n (alone 0).entries) (add-one i)
         ∙ issue_free 64 (suc i) (alone 0).entries (ap (λ (b : Bool). b || false) (zero_own.not_own i))
 
     starts : (i : ℕ) → i < 4095 → step_of (alone i) towards3 [] 256 ≡ answer 0 0 0 (message 1 3 (suc i) 0 1 0 0) (beside (suc i))
-    unfolding find_from
     starts i h =
         let units : x.used + 0 ≡ x.used = omega arith in
         start_step (alone i) towards3 [] 256 refl 1 refl (rw zero_own.busy)
@@ -140,23 +136,20 @@ module _ (r : Entry) (x : Station) where
         ∙ ap (λ (u : ℕ). answer 0 0 0 (message 1 3 (suc i) 0 1 0 0) (holding (beside (suc i)).entries (suc i) u x)) units
 
     cancels : (i : ℕ) → i < 4095 → step_of (beside (suc i)) (cancel_of (suc i)) [] 256 ≡ answer 0 2 0 (message 6 3 (suc i) 65535 0 0 1) (alone (suc i))
-    unfolding find_from
     cancels i h =
         let units : x.used - 0 + 0 ≡ x.used = omega arith in
         let formed = ap (λ (b : Bool). b && true && true && true && true) (used_in_range 4095 (suc i) h) in
-        let found : find (about (cancel_of (suc i))) (beside (suc i)) ≡ At 1
-        = ap (λ (b : Bool). cond b (At 0) (cond (eqb (suc i) (suc i) && true) (At 1) Nothing)) (zero_own.not_about i)
-        ∙ ap (λ (b : Bool). cond (b && true) (At 1) Nothing) (eqb_same (suc i)) in
+        let found : find (about (cancel_of (suc i))) (beside (suc i)) ≡ Some 1 = rw (zero_own.not_about i, eqb_same (suc i)) in
         row_step (beside (suc i)) (cancel_of (suc i)) [] 256 formed 1 8 refl found refl
         ∙ ap (λ (u : ℕ). answer 0 2 0 (message 6 3 (suc i) 65535 0 0 1) (holding (alone (suc i)).entries (suc i) u x)) units
 
   -- Towards another neighbour than 3 its outgoing records are the same, whatever it issued last.
   out_alone : (p i j : ℕ) → out (alone i) p j ≡ cond (own_is j r) (out_of p r) NotOut
-  unfolding out named find_from
+  unfolding out named
   out_alone p i j = by_cases (own_is j r) (λ t. rw t) (λ t. rw t)
 
   out_beside : (p i j : ℕ) → eqb 3 p ≡ false → out (beside i) p j ≡ cond (own_is j r) (out_of p r) NotOut
-  unfolding out named find_from
+  unfolding out named
   out_beside p i j not3 =
       by_cases (own_is j r) (λ t. rw t)
       (λ t. rw t (by_cases (eqb i j) (λ u. rw (u, not3)) (λ u. rw u)))
@@ -197,7 +190,7 @@ none_under_way w empty r s = rw (empty r) nothing
 -- so many own IDs are issued, from 1 on
 unfoldable pub issued_up_to : ℕ → Numbers → Numbers
 issued_up_to zero n = n
-issued_up_to (suc i) n = issuing (some (suc i)) (issued_up_to i n)
+issued_up_to (suc i) n = issuing (Some (suc i)) (issued_up_to i n)
 
 module _ (peer : Side → ℕ) (w : World) (s : Side) (not3 : eqb 3 (peer s) ≡ false) where
   -- An event that the other station does not hear of, of a station that is known.
@@ -213,7 +206,7 @@ module _ (peer : Side → ℕ) (w : World) (s : Side) (not3 : eqb 3 (peer s) ≡
       (record {
         range = range;
         answers = record { bearers = []; room = 256; stepped = sym stepped };
-        taken = none;
+        taken = None;
         rest = v.queue (other s);
         comes = own own_event;
         becomes = sym (apart_again w s x n a) ∙ sym (unheard peer v s e a unsent no_request no_acknowledge no_arrival (λ j. rw at_side (same j)));

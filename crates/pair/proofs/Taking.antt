@@ -4,7 +4,7 @@ use Prim.Native.Nat.{ℕ, ◌≤◌}
 use mathlib.Core.Path.{◌≡◌, refl, sym, ap, ◌∙◌}
 use mathlib.Core.Bool.{true, true≢false, false≢true}
 use mathlib.Core.List.{List, ◌∷◌, ◌++◌}
-use mathlib.Core.Option.{Option, some, none-ne-some, some-injective}
+use Rattle.std.specs.Prelude.{Option, Some}
 use borrow.Author.Tests.{eqb-true, eq-eqb, le-leb}
 use native.Mathlib.Omega.{arith}
 use lib.Dec.{eqb}
@@ -41,7 +41,7 @@ module _ {p : ℕ} {m e : Record} where
 
 pub record Taken (k p : ℕ) (e : Record) (queue : List Envelope) (taken : Option Envelope) : Type 0 where
   pub first : Envelope
-  pub is : taken ≡ some first
+  pub is : taken ≡ Some first
   pub older : List Envelope
   pub younger : List Envelope
   pub queued : queue ≡ older ++ (first ∷ younger)
@@ -84,7 +84,7 @@ module _ {p : ℕ} {e : Record} {queue : List Envelope} where
 
   -- The message taken stood before each, since none was older: here, and here alone, order is used.
   pub left_behind : {taken : Option Envelope} {rest : List Envelope} {P : Envelope → Envelope → Type 0} → Comes p e queue taken rest
-      → Pairs P queue → All (λ y. (m : Envelope) → taken ≡ some m → P m y) rest
-  left_behind (own not_from) ps = all_any (λ y m is. absurd (none-ne-some m is)) queue
+      → Pairs P queue → All (λ y. (m : Envelope) → taken ≡ Some m → P m y) rest
+  left_behind (own not_from) ps = all_any (λ y m is. absurd cc) queue
   left_behind (take older {m = first} younger oldest queued carries) ps =
-      rw oldest (all_map (λ y fits m is. rw (some-injective first m is) at fits) (pairs_head (rw (queued, oldest) at ps)))
+      rw oldest (all_map (λ y fits m is. let same : first ≡ m = cc in rw same at fits) (pairs_head (rw (queued, oldest) at ps)))

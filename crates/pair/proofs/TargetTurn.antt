@@ -4,7 +4,7 @@ use Prim.Native.Nat.{ℕ}
 use mathlib.Core.Path.{◌≡◌, refl, sym, ap, ◌∙◌}
 use mathlib.Core.Bool.{true, false, ◌&&◌, false≢true}
 use mathlib.Core.List.{List}
-use mathlib.Core.Option.{Option, some}
+use Rattle.std.specs.Prelude.{Option, Some}
 use borrow.Author.Tests.{eqb-true, eq-eqb, ne_eqb}
 use store.Seg.{eqb_same}
 use native.Mathlib.Omega.{arith}
@@ -89,7 +89,7 @@ module _ {s : Side} {d : Direction} {e : Record} {a : Answer} {taken : Option En
   -- ---- requests
 
   -- A request that is left is of another handover than the one that was taken.
-  other_request : (m : Envelope) → ((first : Envelope) → taken ≡ some first → kind_of first ≡ 1 → kind_of m ≡ 1 → first.tag ≡ m.tag → ⊥)
+  other_request : (m : Envelope) → ((first : Envelope) → taken ≡ Some first → kind_of first ≡ 1 → kind_of m ≡ 1 → first.tag ≡ m.tag → ⊥)
       → kind_of m ≡ 1 → took 1 m.tag taken ≡ false
   other_request m apart one =
       refuted (took 1 m.tag taken)

@@ -5,7 +5,7 @@ use mathlib.Core.Path.{◌≡◌, sym, ◌∙◌}
 use mathlib.Core.Bool.{true, false, true≢false}
 use mathlib.Core.List.{List}
 use mathlib.Core.Logic.{⊎_elim}
-use mathlib.Core.Option.{Option}
+use Rattle.std.specs.Prelude.{Option}
 use borrow.Author.Tests.{eqb-true, eqb-false, eq-eqb}
 use store.Seg.{eqb_same}
 use native.Mathlib.Omega.{arith}

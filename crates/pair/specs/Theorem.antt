@@ -1,6 +1,6 @@
 -- The theorem of two stations: whatever they do and whatever is lost, both think the same of each handover.
 use Rattle.std.specs.Prelude.{ℕ, ◌+◌, ◌≤◌, ◌<◌, ◌≡◌, Bool, true, false, ◌||◌, [], ◌∷◌, ◌++◌, ◌↔◌, eqb, get_or}
-use Rattle.std.proofs.Math.Option.{some}
+use Rattle.std.specs.Prelude.{Some}
 use Rattle.records.specs.declared.Record.{Record}
 use Rattle.handover.specs.declared.Entry.{Entry}
 use Rattle.handover.specs.Events.{message}
@@ -63,7 +63,7 @@ module _ (peer : Side → ℕ) where
 
   -- A time that is "past every deadline" of a station's records of the other.
   abbrev pub Past : World → Side → ℕ → Type 0
-  Past w s t = (i d : ℕ) → due (w.station s) (peer s) i ≡ some d → d ≤ t
+  Past w s t = (i d : ℕ) → due (w.station s) (peer s) i ≡ Some d → d ≤ t
 
   -- Steps in which neither station starts a handover towards the other; all else may happen in them, beyond the limit too.
   abbrev pub starts : {w w' : World} → Step peer w w' → Bool
@@ -141,7 +141,7 @@ module _ (peer : Side → ℕ) where
     pub answer : Answer
     pub acts : Acts peer w (other s) event answer w'
     pub cancel : Envelope
-    pub taken : acts.taken ≡ some cancel
+    pub taken : acts.taken ≡ Some cancel
     pub kind : cancel.message.kind ≡ 6
     pub belongs : cancel.tag ≡ h
 

@@ -2,7 +2,7 @@
 -- what is told of it: the numbers that were issued and the handovers, written beside the stations and flowing into none. Then both: a
 -- world, its steps and its runs.
 use Rattle.std.specs.Prelude.{ℕ, ◌+◌, ◌<◌, ◌≡◌, Bool, true, false, cond, not, ◌&&◌, ◌||◌, List, [], ◌∷◌, ◌++◌, leb, eqb}
-use Rattle.std.proofs.Math.Option.{Option, none, some}
+use Rattle.std.specs.Prelude.{Option, Some, None}
 use Rattle.records.specs.Record.{InRange, altered}
 use Rattle.records.specs.declared.Record.{Record}
 use Rattle.table.specs.declared.Answer.{Answer}
@@ -81,9 +81,9 @@ pub data Carries (p : ℕ) (m : Record) (e : Record) : Type 0 where
 -- "Known by a number nobody else uses": a message event that has it is a message of the other station, and every other event comes at any
 -- time. "In order": none that is under way with it is older. "At most once": then it is gone.
 pub data Comes (p : ℕ) (e : Record) (queue : List Envelope) : Option Envelope → List Envelope → Type 0 where
-  own : is_message p e ≡ false → Comes p e queue none queue
+  own : is_message p e ≡ false → Comes p e queue None queue
   take : (older : List Envelope) {m : Envelope} (younger : List Envelope) → older ≡ [] → queue ≡ older ++ (m ∷ younger) → Carries p m.message e
-      → Comes p e queue (some m) (older ++ younger)
+      → Comes p e queue (Some m) (older ++ younger)
 
 -- ==== what is told of it
 
@@ -122,8 +122,8 @@ no_history = record { asked = false; answer = Silent; arrived = false; released_
 
 -- an own ID is issued, or none
 abbrev pub issuing : Option ℕ → Numbers → Numbers
-issuing none n = n
-issuing (some i) n =
+issuing None n = n
+issuing (Some i) n =
     record {
       issued_count = next_issue n;
       issue_of = λ j. cond (eqb j i) (next_issue n) (n.issue_of j);
@@ -141,12 +141,12 @@ is_prepared (Prepared number set) = true
 
 -- whether a message of a kind was taken, of a handover
 abbrev pub took : ℕ → ℕ → Option Envelope → Bool
-took kind h none = false
-took kind h (some m) = eqb m.message.kind kind && eqb m.tag h
+took kind h None = false
+took kind h (Some m) = eqb m.message.kind kind && eqb m.tag h
 
 abbrev pub tag_of : Option Envelope → ℕ
-tag_of none = 0
-tag_of (some m) = m.tag
+tag_of None = 0
+tag_of (Some m) = m.tag
 
 -- A handover after its source answered an event: a start of it is done; a release of it was taken while its record was prepared;
 -- its record leaves the table, with the ending of that step.

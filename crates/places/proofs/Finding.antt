@@ -1,45 +1,49 @@
 -- What is found in a table.
-use Prim.Native.Nat.{ℕ, suc, ◌+◌, ◌<◌}
-use mathlib.Core.Path.{◌≡◌, refl, sym}
-use mathlib.Core.Bool.{Bool, true, false}
+use Prim.Native.Nat.{ℕ, ◌+◌, ◌<◌}
+use mathlib.Core.Path.{◌≡◌, refl}
+use mathlib.Core.Bool.{Bool, true, false, ◌&&◌}
 use mathlib.Core.List.{List, [], ◌∷◌}
 use native.Mathlib.Omega.{arith}
+use Rattle.std.proofs.lemmas.Grind.{common_steps}
+use Rattle.std.proofs.lemmas.List.Quantifiers.{position-Some}
 use lib.ListN.{length, get_or}
-use Rattle.laws.proofs.Tests.{by_cases, clash}
+use Rattle.laws.proofs.Tests.{by_cases}
+use Rattle.records.specs.declared.Record.{Record}
 use Rattle.handover.specs.declared.Entry.{Entry}
-use Rattle.handover.specs.Numbers.{blank, any_of}
-use Rattle.places.specs.declared.Found.{Found}
-use Rattle.places.specs.declared.Found.TheVariants.{At, Nothing}
-use Rattle.places.specs.Places.{find_from}
-
--- A place that is found is not none.
-pub at_nothing : (i : ℕ) → At i ≡ Nothing → ⊥
-at_nothing i e = clash cc
+use Rattle.handover.specs.Events.{key, due_by}
+use Rattle.handover.specs.Numbers.{blank}
+use Rattle.places.specs.declared.Best.{Best}
+use Rattle.places.specs.Places.{beats, better_by, due_from}
+use Rattle.std.specs.List.{list_any, position}
+use Rattle.std.specs.Prelude.{Option, Some, None}
 
 -- A fact by what is found.
-pub by_found : {G : Type 0} (found : Found) → (found ≡ Nothing → G) → ((k : ℕ) → found ≡ At k → G) → G
-by_found Nothing none at = none refl
-by_found (At k) none at = at k refl
+pub by_found : {G : Type 0} (found : Option ℕ) → (found ≡ None → G) → ((k : ℕ) → found ≡ Some k → G) → G
+by_found None none at = none refl
+by_found (Some k) none at = at k refl
 
--- A place that is found, counted from the given number on, is one of the list's, and the test holds there.
-pub found_at : (test : Entry → Bool) (rs : List Entry) (i k : ℕ) → find_from test i rs ≡ At k → (j : ℕ) × (k ≡ i + j) × (j < length rs) × (test (get_or rs j blank) ≡ true)
-unfolding find_from
-found_at test [] i k e = absurd (at_nothing k (sym e))
-found_at test (r ∷ rs) i k e =
-    by_cases (test r)
-    (λ t.
-    let here : At i ≡ At k = rw t at e in
-    let same : i ≡ k = cc in
-    (0, omega arith, omega arith, t))
-    (λ t.
-    let later = found_at test rs (i + 1) k (rw t at e) in
-    (suc later.0, omega (arith, later.1), omega (arith, later.2), later.3))
+-- A place that is found is one of the table's, and the test holds there and at none before it.
+pub found_at : (test : Entry → Bool) (rs : List Entry) (k : ℕ) → position test rs ≡ Some k → (k < length rs) × (test (get_or rs k blank) ≡ true) × ((j : ℕ) → j < k → test (get_or rs j blank) ≡ false)
+found_at test rs k found = position-Some test rs k blank found
 
 -- Where no place is found, the test holds of no record.
-pub found_none : (test : Entry → Bool) (rs : List Entry) (i : ℕ) → find_from test i rs ≡ Nothing → any_of test rs ≡ false
-unfolding find_from any_of
-found_none test [] i e = refl
-found_none test (r ∷ rs) i e =
-    by_cases (test r)
-    (λ t. absurd (at_nothing i (rw t at e)))
-    (λ t. rw t (found_none test rs (i + 1) (rw t at e)))
+pub found_none : {A : Type 0} (test : A → Bool) (rs : List A) → position test rs ≡ None → list_any test rs ≡ false
+found_none test [] none = refl
+found_none test (r ∷ rs) none =
+    by_cases (test r) (λ t. absurd (grind (arith, common_steps))) (λ t. rw t (found_none test rs (grind (arith, common_steps))))
+
+-- The soonest record that is due stands in the table.
+pub due_at : (e : Record) (rs : List Entry) (best : Option Best) (i k : ℕ) → ((b : Best) → best ≡ Some b → b.place < i) → due_from e best i rs ≡ Some k → k < i + length rs
+unfolding due_from
+due_at e [] None i k placed found = absurd cc
+due_at e [] (Some b) i k placed found =
+    let same : b.place ≡ k = cc in
+    omega (arith, placed b refl)
+due_at e (r ∷ rs) best i k placed found =
+    omega (arith, due_at e rs (better_by (key e.kind) e i r best) (i + 1) k next found)
+  where
+    next : (b : Best) → better_by (key e.kind) e i r best ≡ Some b → b.place < i + 1
+    next b is =
+        by_cases (due_by (key e.kind) e r && beats r best)
+        (λ t. let here : Some (record { place = i; entry = r }) ≡ Some b = rw t at is in let same : i ≡ b.place = cc in omega arith)
+        (λ t. omega (arith, placed b (rw t at is)))

@@ -1,14 +1,23 @@
--- How a record is found in the table.
-use Rattle.std.specs.Prelude.{ℕ, ◌+◌, ◌≡◌, Bool, cond, List, [], ◌∷◌, length}
+-- How the record that is due the soonest is found.
+use Rattle.std.specs.Prelude.{ℕ, ◌+◌, Bool, true, cond, ◌&&◌, List, [], ◌∷◌, Option, Some, None}
+use Rattle.records.specs.declared.Record.{Record}
 use Rattle.handover.specs.declared.Entry.{Entry}
-use Rattle.places.specs.declared.Found.{Found}
-use Rattle.places.specs.declared.Found.TheVariants.{At, Nothing}
+use Rattle.handover.specs.Events.{key, due_by, sooner}
+use Rattle.places.specs.declared.Best.{Best}
 
--- the table has 64 places; that an array has so many its type says, and to a contract it is a list
-abbrev pub Whole : List Entry → Type 0
-Whole rs = length rs ≡ 64
+-- whether a record is sooner than the soonest so far, if there is one
+abbrev pub beats : Entry → Option Best → Bool
+beats r None = true
+beats r (Some best) = sooner r best.entry
 
--- the first place at which a test holds, the places being counted from the given number on
-unfoldable pub find_from : (Entry → Bool) → ℕ → List Entry → Found
-find_from test i [] = Nothing
-find_from test i (r ∷ rs) = cond (test r) (At i) (find_from test (i + 1) rs)
+-- the soonest so far after one record more, and the place of the soonest once all were looked at
+abbrev pub better_by : (ℕ → ℕ) → Record → ℕ → Entry → Option Best → Option Best
+better_by by e i r best = cond (due_by by e r && beats r best) (Some (record { place = i; entry = r })) best
+
+abbrev pub place_of : Option Best → Option ℕ
+place_of None = None
+place_of (Some best) = Some best.place
+
+unfoldable pub due_from : Record → Option Best → ℕ → List Entry → Option ℕ
+due_from e best i [] = place_of best
+due_from e best i (r ∷ rs) = due_from e (better_by (key e.kind) e i r best) (i + 1) rs

@@ -4,7 +4,7 @@ use mathlib.Core.Path.{◌≡◌, refl, sym, ap, ◌∙◌, subst}
 use mathlib.Core.Bool.{true, false, ◌&&◌, true≢false, false≢true}
 use mathlib.Core.Logic.{⊎_elim}
 use mathlib.Core.List.{List}
-use mathlib.Core.Option.{some, none-ne-some}
+use Rattle.std.specs.Prelude.{Some}
 use borrow.Author.Tests.{eqb-true, eq-eqb, leb-false}
 use native.Mathlib.Omega.{arith}
 use lib.Dec.{leb, eqb}
@@ -13,7 +13,6 @@ use Rattle.laws.proofs.Sums.{total_at}
 use Rattle.laws.proofs.Tests.{by_cases, both_true, clash}
 use Rattle.records.specs.declared.Record.{Record}
 use Rattle.handover.specs.declared.Entry.{Entry}
-use Rattle.places.specs.declared.Found.TheVariants.{At}
 use Rattle.table.specs.declared.Answer.{Answer}
 use Rattle.table.specs.declared.Station.{Station}
 use Rattle.handover.specs.Events.{about, message}
@@ -66,13 +65,13 @@ module _ (s : Station) (sound : Sound s) (p i n j : ℕ) (place : j < 64) (its :
       rw (two, of, old, eq-eqb x.new.0 n new)
 
   -- So it finds it.
-  release_finds : find (about (release p i n)) s ≡ At j
+  release_finds : find (about (release p i n)) s ≡ Some j
   release_finds =
       let its_own = about (release p i n) in
       by_found (find its_own s)
-      (λ none. absurd (true≢false (sym mine ∙ none_at its_own s.entries j (omega (arith, sound.places)) (found_none its_own s.entries 0 none))))
+      (λ none. absurd (true≢false (sym mine ∙ none_at its_own s.entries j (omega (arith, sound.places)) (found_none its_own s.entries none))))
       (λ k found.
-      found ∙ ap At (about_once (release p i n) (omega arith) (omega arith) s sound k j (found_place s sound its_own k found) place (found_here its_own s k found).1 mine))
+      found ∙ ap Some (about_once (release p i n) (omega arith) (omega arith) s sound k j (found_place s sound its_own k found) place (found_here its_own s k found).1 mine))
 
 -- Where its place is free, no record has its own ID.
 pub gone : (s : Station) → Sound s → (i j : ℕ) → j < 64 → own_is i (get_or s.entries j blank) ≡ true → Sound (put j blank s) → named i (put j blank s) ≡ blank
@@ -108,11 +107,11 @@ module _ {s : Station} (reached : Reached s) (bearers : List ℕ) (room : ℕ) w
 
 -- ---- a tick
 
-due_means : (p d : ℕ) (r : Entry) → due_of p r ≡ some d → (leb 1 r.state && leb r.state 3 ≡ true) × (r.deadline ≡ d)
+due_means : (p d : ℕ) (r : Entry) → due_of p r ≡ Some d → (leb 1 r.state && leb r.state 3 ≡ true) × (r.deadline ≡ d)
 due_means p d r timer =
     by_cases (leb 1 r.state && leb r.state 3 && eqb r.neighbour p)
-    (λ t. let same : some r.deadline ≡ some d = rw t at timer in ((both_true (leb 1 r.state && leb r.state 3) (eqb r.neighbour p) t).0, (cc)))
-    (λ t. absurd (none-ne-some d (rw t at timer)))
+    (λ t. let same : Some r.deadline ≡ Some d = rw t at timer in ((both_true (leb 1 r.state && leb r.state 3) (eqb r.neighbour p) t).0, (cc)))
+    (λ t. absurd (cc (rw t at timer)))
 
 -- A tick that finds a record with a deadline not due is before it.
 not_due : (e : Record) (r : Entry) → e.kind ≡ 15 → leb 1 r.state && leb r.state 3 ≡ true → due_times e r ≡ 0 → e.time < r.deadline
@@ -122,7 +121,7 @@ not_due e r fifteen timed zero_times =
     (λ t. leb-false r.deadline e.time t)
 
 -- So one with reply 9 is before every deadline.
-pub nine_of : (s : Station) → Sound s → (e : Record) (bearers : List ℕ) (room p i d : ℕ) → e.kind ≡ 15 → (step_of s e bearers room).outcome.reply ≡ 9 → due s p i ≡ some d → e.time < d
+pub nine_of : (s : Station) → Sound s → (e : Record) (bearers : List ℕ) (room p i d : ℕ) → e.kind ≡ 15 → (step_of s e bearers room).outcome.reply ≡ 9 → due s p i ≡ Some d → e.time < d
 unfolding due
 nine_of s sound e bearers room p i d fifteen nine timer =
     by_cases (well_formed e)
@@ -134,7 +133,7 @@ nine_of s sound e bearers room p i d fifteen nine timer =
     let one = total_at (due_times e) s.entries there.0 blank (omega (arith, there.1, sound.places)) in
     let before = not_due e x fifteen seen.0 (omega (arith, one, tick_nine e fifteen formed s bearers room nine)) in
     omega (arith, before, seen.1))
-    (λ free. absurd (none-ne-some d (rw free.1 at timer)))
+    (λ free. absurd (cc (rw free.1 at timer)))
     (named_at s sound i))
     (λ malformed.
     let is = sym (ap (λ (a : Answer). a.outcome.reply) (malformed_step s e bearers room malformed)) ∙ nine in

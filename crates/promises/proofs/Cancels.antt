@@ -1,5 +1,6 @@
 -- A cancel that is sent is of an outgoing record, and has its New ID if that is known; a UE that returns sends one; and a cancel that is
 -- taken ends the held record that has its IDs, with its units.
+use Rattle.std.specs.Prelude.{Some}
 use Prim.Native.Nat.{ℕ, ◌+◌, ◌≤◌, ◌<◌}
 use mathlib.Core.Path.{◌≡◌, refl, sym, ap, subst, ◌∙◌}
 use mathlib.Core.Bool.{true, false, ◌&&◌, true≢false, false≢true}
@@ -13,7 +14,6 @@ use Rattle.laws.proofs.Tests.{by_cases, both_true}
 use Rattle.records.specs.declared.Record.{Record}
 use Rattle.table.specs.declared.Answer.{Answer}
 use Rattle.handover.specs.declared.Entry.{Entry}
-use Rattle.places.specs.declared.Found.TheVariants.{At}
 use Rattle.table.specs.declared.Station.{Station}
 use Rattle.handover.specs.Events.{about, action_of, message, last_word, decide}
 use Rattle.fields.specs.Fields.{well_formed}
@@ -191,10 +191,10 @@ module _ {s : Station} (reached : Reached s) (bearers : List ℕ) (room : ℕ) w
       let its = eqb-true n (own x) (own_is_lem n x there.2) in
       let number : x.new.0 ≡ n = rw seen.0 at (sym its) in
       let about_it = mine p old n new reason x seen.0 seen.1 seen.2 number given in
-      let found : find (about e) s ≡ At j =
+      let found : find (about e) s ≡ Some j =
       by_found (find (about e) s)
-      (λ none. absurd (true≢false (sym about_it ∙ none_at (about e) s.entries j (omega (arith, there.1, (sound reached).places)) (found_none (about e) s.entries 0 none))))
-      (λ k at. at ∙ ap At (about_once e (omega arith) (omega arith) s (sound reached) k j (found_place s (sound reached) (about e) k at) there.1 (found_here (about e) s k at).1 about_it)) in
+      (λ none. absurd (true≢false (sym about_it ∙ none_at (about e) s.entries j (omega (arith, there.1, (sound reached).places)) (found_none (about e) s.entries none))))
+      (λ k at. at ∙ ap Some (about_once e (omega arith) (omega arith) s (sound reached) k j (found_place s (sound reached) (about e) k at) there.1 (found_here (about e) s k at).1 about_it)) in
       let neighbour = used_in_range 31 p (omega (arith, small, eqb-true x.neighbour p seen.1)) in
       let id = used_in_range 4095 old (omega (arith, small, seen.2)) in
       let cause = used_in_range 255 reason byte in

@@ -1,4 +1,6 @@
 -- The worked cases hold: each is the step's own definition, computed.
+use Rattle.std.specs.List.{list_any}
+use Rattle.std.specs.Prelude.{Some}
 use Prim.Native.Nat.{ℕ, zero, suc, ◌+◌, ◌≤◌, ◌<◌}
 use mathlib.Core.Path.{◌≡◌, refl, ap, subst, ◌∙◌}
 use mathlib.Core.Bool.{Bool, true, false, cond, ◌&&◌, ◌||◌}
@@ -8,28 +10,25 @@ use borrow.Author.Tests.{ne_eqb}
 use store.Seg.{eqb_same}
 use native.Mathlib.Omega.{arith}
 use lib.Count.{ones, ones_in}
-use lib.Dec.{eqb}
 use lib.ListN.{length, get_or, replicate}
 use Rattle.laws.specs.Sums.{total}
 use Rattle.laws.proofs.Tests.{same_at}
 use Rattle.records.specs.declared.Record.{Record}
 use Rattle.records.specs.Record.{little, record_of, InRange}
-use Rattle.fields.specs.Fields.{first_from}
 use Rattle.bearers.specs.Flaws.{all_of_kind, flaw_from}
 use Rattle.bearers.specs.Bearer.{records_in, all_bearers}
 use Rattle.bearers.specs.Admission.{those, turns_from, free_at, verdict}
 use Rattle.sets.specs.Sets as sets
 use Rattle.table.specs.declared.Answer.{Answer}
-use Rattle.places.specs.declared.Found.TheVariants.{At, Nothing}
 use Rattle.table.specs.declared.Settings.{Settings}
 use Rattle.table.specs.declared.Station.{Station}
 use Rattle.handover.specs.Events.{message}
 use Rattle.fields.specs.Fields.{well_formed}
-use Rattle.handover.specs.Numbers.{is_free, blank, own_is, any_of, next_after, issue_from}
+use Rattle.handover.specs.Numbers.{is_free, blank, own_is, next_after, issue_from}
 use Rattle.table.specs.Reached.{Reached, born, stepped}
 use Rattle.table.specs.Step.{step_of, issue, least, birth_of}
-use Rattle.places.specs.Places.{find_from}
-use Rattle.table.specs.Table.{find, due_from}
+use Rattle.places.specs.Places.{due_from}
+use Rattle.table.specs.Table.{find}
 use Rattle.fields.proofs.Forms.{used_in_range}
 use Rattle.handover.proofs.Issuing.{issue_free, issue_used}
 use Rattle.promises.proofs.Rows.{row_step, start_step}
@@ -38,14 +37,14 @@ use Rattle.promises.specs.Cases.{Seen, Case, settings, freshly, preparing, stati
 -- ---- a station that issued 4,095 last
 
 -- Where 4,095 was issued last, 0 is in use and 1 is not, the next own ID is 1; so it is in the request that a start sends.
-pub issue_wraps : (s : Station) → s.last ≡ 4095 → any_of (own_is 0) s.entries ≡ true → any_of (own_is 1) s.entries ≡ false → issue s ≡ 1
+pub issue_wraps : (s : Station) → s.last ≡ 4095 → list_any (own_is 0) s.entries ≡ true → list_any (own_is 1) s.entries ≡ false → issue s ≡ 1
 issue_wraps s last used unused =
     ap (λ (k : ℕ). issue_from 64 (next_after k) s.entries) last
-    ∙ issue_used 64 0 s.entries (omega arith) used
+    ∙ issue_used 63 0 s.entries used
     ∙ issue_free 63 1 s.entries unused
 
-pub start_wraps : (s : Station) (e : Record) (bearers : List ℕ) (room i : ℕ) → well_formed e ≡ true → e.kind ≡ 9 → find is_free s ≡ At i
-    → s.last ≡ 4095 → any_of (own_is 0) s.entries ≡ true → any_of (own_is 1) s.entries ≡ false
+pub start_wraps : (s : Station) (e : Record) (bearers : List ℕ) (room i : ℕ) → well_formed e ≡ true → e.kind ≡ 9 → find is_free s ≡ Some i
+    → s.last ≡ 4095 → list_any (own_is 0) s.entries ≡ true → list_any (own_is 1) s.entries ≡ false
     → (step_of s e bearers room).outcome.message ≡ message 1 e.neighbour 1 0 e.first 0 0
 start_wraps s e bearers room i formed kind found last used unused =
     rw (start_step s e bearers room formed i kind found, issue_wraps s last used unused)
@@ -70,26 +69,22 @@ abbrev two_from : ℕ → Station
 two_from k = station_with (preparing 0 ∷ preparing k ∷ replicate 62 blank) k
 
 next_issued : (n : ℕ) → n < 4095 → issue (issued_last n) ≡ suc n
-unfolding any_of
 next_issued n h =
     ap (λ (b : Bool). issue_from 64 (cond b 0 (n + 1)) (issued_last 0).entries) (ne_eqb n 4095 (λ e. omega arith))
     ∙ issue_free 64 (n + 1) (issued_last 0).entries (ap (λ (b : Bool). b || false || false) (ne_eqb 0 (n + 1) (λ e. omega arith)))
     ∙ omega arith
 
 started_second : (n : ℕ) → n < 4095 → (step_of (issued_last n) start.event [] 0).station ≡ two_from (suc n)
-unfolding find_from
 started_second n h = ap two_from (next_issued n h)
 
 cancelled_second : (n : ℕ) → n < 4095 → (step_of (two_from (suc n)) (cancel (suc n)).event [] 0).station ≡ issued_last (suc n)
-unfolding find_from
 cancelled_second n h =
     ap (λ (a : Answer). a.station)
     (row_step (two_from (suc n)) (cancel (suc n)).event [] 0 (ap (λ (b : Bool). b && true && true && true && true) (used_in_range 4095 (suc n) h)) 1 8 refl
-    (ap (λ (b : Bool). cond (b && true) (At 0) (cond (eqb (suc n) (suc n) && true) (At 1) Nothing)) (ne_eqb 0 (suc n) (λ e. omega arith))
-    ∙ ap (λ (b : Bool). cond (b && true) (At 1) Nothing) (eqb_same (suc n))) refl)
+    (rw (ne_eqb 0 (suc n) (λ e. omega arith), eqb_same (suc n))) refl)
 
 pub issued : (n : ℕ) → n ≤ 4095 → Reached (issued_last n)
-unfolding find_from any_of issue_from
+unfolding issue_from
 issued zero h = stepped fresh_reached start.event start_small [] 0
 issued (suc n) h =
     subst Reached (cancelled_second n h)
@@ -106,7 +101,7 @@ must c = c.seen
 
 -- All cases show what they must, by computation.
 all_shown : map shows cases ≡ map must cases
-unfolding ones ones_in runs bytes_in first_from all_of_kind flaw_from find_from due_from any_of issue_from little record_of records_in all_bearers total those turns_from free_at verdict sets.add sets.set_of
+unfolding ones ones_in runs bytes_in all_of_kind flaw_from due_from issue_from little record_of records_in all_bearers total those turns_from free_at verdict sets.add sets.set_of
 all_shown = refl
 
 none_shown : shows no_case ≡ must no_case

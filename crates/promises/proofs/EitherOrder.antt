@@ -14,18 +14,18 @@ use lib.Seq.{ext_get_or}
 use Rattle.laws.specs.Sums.{total}
 use Rattle.laws.proofs.Tests.{by_cases, both_true, between, refuted}
 use Rattle.records.specs.Record.{little, record_of}
+use Rattle.bearers.specs.Flaws.{all_of_kind, flaw_from}
 use Rattle.bearers.specs.Bearer.{records_in, all_bearers}
 use Rattle.bearers.specs.Admission.{those, turns_from, free_at, verdict}
 use Rattle.sets.specs.Sets as sets
 use Rattle.handover.specs.declared.Entry.{Entry}
 use Rattle.answers.specs.declared.Outcome.{Outcome}
 use Rattle.table.specs.declared.Station.{Station}
-use Rattle.handover.specs.Numbers.{is_free, blank, any_of, issue_from}
+use Rattle.handover.specs.Numbers.{is_free, blank, issue_from}
 use Rattle.handover.proofs.Keys.{is_of}
 use Rattle.table.specs.Reached.{Reached, stepped}
 use Rattle.table.specs.Sound.{Sound}
-use Rattle.places.specs.Places.{find_from}
-use Rattle.table.specs.Table.{due_from}
+use Rattle.places.specs.Places.{due_from}
 use Rattle.table.proofs.Soundness.{sound, sound_step}
 use Rattle.promises.specs.Cases.{freshly, bytes_in}
 use Rattle.promises.specs.Orders.{Input, taken, sender, is_message, Apart, EitherOrder, are_messages, answered, after, asker, own_of, Reordered, AnyOrder, Fails, started, acknowledged, failed, asked, around_tick}
@@ -237,7 +237,7 @@ module _ (s : Station) (reached : Reached s) where
 
 -- Two messages of one neighbour: the acknowledge is taken before the failure, and finds no record after it.
 pub one_neighbour : Fails (λ s. EitherOrder s (acknowledged 3 0) (failed 3 0))
-unfolding find_from any_of issue_from
+unfolding issue_from
 one_neighbour =
     record {
       station = after freshly (started 3 ∷ []);
@@ -247,7 +247,7 @@ one_neighbour =
 
 -- Two requests of different neighbours: the one that comes first gets own ID 0.
 pub requests_own_ids : Fails (λ s. EitherOrder s (asked 3 10) (asked 4 10))
-unfolding bytes_in find_from any_of issue_from little record_of records_in all_bearers total those turns_from free_at verdict sets.add sets.set_of
+unfolding bytes_in issue_from little record_of records_in all_bearers all_of_kind flaw_from total those turns_from free_at verdict sets.add sets.set_of
 requests_own_ids =
     record {
       station = freshly;
@@ -257,7 +257,7 @@ requests_own_ids =
 
 -- And the units, where there are not enough for both.
 pub requests_units : Fails (λ s. EitherOrder s (asked 3 60) (asked 4 60))
-unfolding bytes_in find_from any_of issue_from little record_of records_in all_bearers total those turns_from free_at verdict sets.add sets.set_of
+unfolding bytes_in issue_from little record_of records_in all_bearers all_of_kind flaw_from total those turns_from free_at verdict sets.add sets.set_of
 requests_units =
     record {
       station = freshly;
@@ -273,7 +273,7 @@ tick_reordered n =
     (λ other. by_cases (eqb 4 n) (λ four. rw (← eqb-true 4 n four)) (λ neither. rw (other, neither)))
 
 pub tick_between : Fails (λ s. AnyOrder s (around_tick (acknowledged 3 0) (acknowledged 4 1)) (around_tick (acknowledged 4 1) (acknowledged 3 0)))
-unfolding find_from any_of issue_from due_from
+unfolding issue_from due_from
 tick_between =
     record {
       station = after freshly (started 3 ∷ started 4 ∷ []);

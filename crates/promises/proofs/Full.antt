@@ -1,9 +1,10 @@
 -- "64 records in use, exactly then": when a start or a request gets reply 4; and kinds that are none.
+use Rattle.std.specs.Prelude.{Some, None}
 use Prim.Native.Nat.{ℕ, ◌+◌, ◌<◌}
 use mathlib.Core.Path.{◌≡◌, refl, ◌∙◌}
 use mathlib.Core.Bool.{Bool, true, false, cond}
 use mathlib.Core.List.{List}
-use borrow.Author.Tests.{eqb-false, eq-eqb}
+use borrow.Author.Tests.{eqb-false}
 use native.Mathlib.Omega.{arith}
 use lib.Dec.{eqb}
 use Rattle.laws.proofs.Sums.{total_add, total_each, total_equal}
@@ -11,11 +12,12 @@ use Rattle.laws.specs.Sums.{total}
 use Rattle.laws.proofs.Tests.{by_cases}
 use Rattle.records.specs.declared.Record.{Record}
 use Rattle.handover.specs.declared.Entry.{Entry}
-use Rattle.places.specs.declared.Found.TheVariants.{At, Nothing}
 use Rattle.table.specs.declared.Station.{Station}
 use Rattle.handover.specs.Events.{about}
 use Rattle.fields.proofs.Agreeing.{no_event_malformed}
-use Rattle.fields.specs.Fields.{no_event, sort_of, well_formed}
+use Rattle.fields.proofs.Sorts.{eq_sort}
+use Rattle.fields.specs.declared.Sort.TheVariants.{NoEvent}
+use Rattle.fields.specs.Fields.{sort_of, well_formed}
 use Rattle.handover.specs.Numbers.{is_free}
 use Rattle.table.specs.Sound.{Sound}
 use Rattle.table.specs.Step.{refused, failure, admission, taken, complete, step_of}
@@ -46,11 +48,11 @@ module _ (s : Station) (sound : Sound s) where
       omega (arith, total_add used free s.entries, both, total_each 1 s.entries, sound.places)
 
   -- No place is found free exactly where 64 records are in use.
-  none_free : find is_free s ≡ Nothing → in_use s ≡ 64
+  none_free : find is_free s ≡ None → in_use s ≡ 64
   none_free found =
-      omega (arith, all_places, total_none_of free is_free s.entries (λ r t. rw t) (found_none is_free s.entries 0 found))
+      omega (arith, all_places, total_none_of free is_free s.entries (λ r t. rw t) (found_none is_free s.entries found))
 
-  some_free : (i : ℕ) → find is_free s ≡ At i → in_use s < 64
+  some_free : (i : ℕ) → find is_free s ≡ Some i → in_use s < 64
   some_free i found = omega (arith, all_places, total_found is_free s i found)
 
   module _ (e : Record) (bearers : List ℕ) (room : ℕ) (formed : well_formed e ≡ true) (kind : e.kind ≡ 9) where
@@ -68,7 +70,7 @@ module _ (s : Station) (sound : Sound s) where
         (λ i found. rw (start_step s e bearers room formed i kind found))
 
   module _ (e : Record) (bearers : List ℕ) (room : ℕ) (formed : well_formed e ≡ true) (kind : e.kind ≡ 1)
-      (whole : complete e bearers room ≡ true) (new : find (about e) s ≡ Nothing) where
+      (whole : complete e bearers room ≡ true) (new : find (about e) s ≡ None) where
     -- So does a request that is complete and repeats none: 4 and the failure where 64 are in use, and else another reply.
     pub crowded_exactly : in_use s ≡ 64 → step_of s e bearers room ≡ failure 4 e s
     crowded_exactly full =
@@ -85,6 +87,6 @@ module _ (s : Station) (sound : Sound s) where
         (λ t. rw (grant_step s e bearers room formed kind whole i new found t) (eqb-false 0 4 refl)))
 
 -- "10 unknown or misplaced kind": 16 elsewhere, and any other that is not 1 to 15 or 17.
-pub no_kind_step : (s : Station) (e : Record) (bearers : List ℕ) (room : ℕ) → sort_of e.kind ≡ no_event → step_of s e bearers room ≡ refused 10 s
+pub no_kind_step : (s : Station) (e : Record) (bearers : List ℕ) (room : ℕ) → sort_of e.kind ≡ NoEvent → step_of s e bearers room ≡ refused 10 s
 no_kind_step s e bearers room t =
-    malformed_step s e bearers room (no_event_malformed e (eq-eqb (sort_of e.kind) no_event t)) ∙ rw t
+    malformed_step s e bearers room (no_event_malformed e (eq_sort (sort_of e.kind) NoEvent t)) ∙ rw t

@@ -22,10 +22,10 @@ module _ (s : Station) (e : Record) (i : ℕ) (live : is_free (get_or s.entries 
   part_keeps (as_grant k _ _ _ _ free) =
       get_or-set_other s.entries k i _ blank (λ here. true≢false (sym (found_here is_free s k free).1 ∙ rw here at live))
   part_keeps (as_start k _ nine _) = absurd (omega arith)
-  part_keeps (as_reset kinds) = absurd (omega (arith, rw one at kinds))
+  part_keeps (as_reset kinds) = absurd (cc (rw one at kinds))
   part_keeps (as_idle _ _) = refl
   part_keeps (as_tick k _ fifteen _) = absurd (omega arith)
-  part_keeps (as_event k _ single _) = absurd (omega (arith, rw one at single))
+  part_keeps (as_event k _ single _) = absurd (cc (rw one at single))
 
   -- No record changes at a request, whoever sent it.
   pub request_keeps : get_or (step_of s e bearers room).station.entries i blank ≡ get_or s.entries i blank

@@ -12,6 +12,7 @@ use Rattle.laws.specs.Sums.{total}
 use Rattle.laws.proofs.Tests.{both_true}
 use Rattle.records.specs.declared.Record.{Record}
 use Rattle.records.specs.Record.{little, record_of, AreBytes}
+use Rattle.bearers.specs.Flaws.{all_of_kind, flaw_from}
 use Rattle.bearers.specs.Bearer.{records_in, all_bearers}
 use Rattle.bearers.specs.Admission.{those, turns_from, free_at, verdict}
 use Rattle.sets.specs.Sets as sets
@@ -19,10 +20,9 @@ use Rattle.table.specs.declared.Answer.{Answer}
 use Rattle.table.specs.declared.Station.{Station}
 use Rattle.promises.specs.Cases.{Event, freshly, issued_last, bytes_in, bearer, request, start}
 use Rattle.promises.specs.Impostors.{Stepper, Handed, Meets, RefusesAll, Asked, RepliesAlike, Echoes, IsFresh, EchoesLater, CountsAlike, Miscounts, Impostor, refusing, alike, echoing, echoing_later, counting_alike, miscounting}
-use Rattle.handover.specs.Numbers.{any_of, issue_from}
+use Rattle.handover.specs.Numbers.{issue_from}
 use Rattle.table.specs.Reached.{Reached}
 use Rattle.table.specs.Step.{complete, step_of, verdicts_of}
-use Rattle.places.specs.Places.{find_from}
 use Rattle.promises.proofs.Cases.{issued, fresh_reached, start_small, request_small}
 use Rattle.table.proofs.Parts.{Part, as_refusal, as_response, as_failure, as_grant, as_start, as_reset, as_idle, as_tick, as_event, part}
 
@@ -86,7 +86,7 @@ module _ (s : Station) (e : Record) (bearers : List ℕ) (room : ℕ) (one : e.k
   part_counted (as_reset _) = none_counted
   part_counted (as_idle _ _) = none_counted
   part_counted (as_tick i _ fifteen _) = absurd (omega arith)
-  part_counted (as_event i _ single _) = absurd (omega (arith, rw one at single))
+  part_counted (as_event i _ single _) = absurd (cc (rw one at single))
 
   pub request_counted : Counted (step_of s e bearers room)
   request_counted = part_counted (part s e bearers room)
@@ -109,12 +109,11 @@ module _ (f : Stepper) (meets : Meets f) where
 
   -- A start at a fresh station is done.
   pub not_refusing : RefusesAll f → ⊥
-  unfolding find_from
   not_refusing refuses = refuses freshly start.event [] [] (starting freshly fresh_reached) (ap (λ (a : Answer). a.outcome.reply) at_birth)
 
   -- Bearers of 100 units and of 101 are not answered alike.
   pub not_alike : RepliesAlike f → ⊥
-  unfolding bytes_in find_from any_of issue_from little record_of records_in all_bearers total those turns_from free_at verdict sets.add sets.set_of
+  unfolding bytes_in issue_from little record_of records_in all_bearers all_of_kind flaw_from total those turns_from free_at verdict sets.add sets.set_of
   not_alike same =
       let few = asking (bytes_in (pair 100 0).bearers) refl refl in
       let many = asking (bytes_in (pair 101 101).bearers) refl refl in
@@ -122,7 +121,7 @@ module _ (f : Stepper) (meets : Meets f) where
 
   -- A start makes another station of one: it issues an own ID.
   pub not_echoing : Echoes f → ⊥
-  unfolding find_from any_of issue_from
+  unfolding issue_from
   not_echoing echoes =
       eqb-false 0 4095 refl (sym (ap (λ (a : Answer). a.station.last) at_birth) ∙ ap (λ (s : Station). s.last) (echoes freshly start.event [] [] (starting freshly fresh_reached)))
 
@@ -131,13 +130,13 @@ module _ (f : Stepper) (meets : Meets f) where
   not_fresh (settings, same) = eqb-false 0 4095 refl (ap (λ (s : Station). s.last) same)
 
   pub not_echoing_later : EchoesLater f → ⊥
-  unfolding find_from any_of issue_from
+  unfolding issue_from
   not_echoing_later echoes =
       eqb-false 1 0 refl (sym (ap (λ (a : Answer). a.station.last) later) ∙ ap (λ (s : Station). s.last) (echoes (issued_last 0) start.event [] [] (starting (issued_last 0) (issued 0 (omega arith))) not_fresh))
 
   -- Of two bearers both are admitted, or one.
   pub not_counting_alike : CountsAlike f → ⊥
-  unfolding ones ones_in bytes_in find_from any_of issue_from little record_of records_in all_bearers total those turns_from free_at verdict sets.add sets.set_of
+  unfolding ones ones_in bytes_in issue_from little record_of records_in all_bearers all_of_kind flaw_from total those turns_from free_at verdict sets.add sets.set_of
   not_counting_alike same =
       let both = asking (bytes_in (pair 60 40).bearers) refl refl in
       let one = asking (bytes_in (pair 60 41).bearers) refl refl in

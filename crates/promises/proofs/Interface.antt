@@ -4,7 +4,7 @@ use mathlib.Core.Path.{◌≡◌, refl, sym, ap, ◌∙◌}
 use mathlib.Core.Bool.{true, false, ◌&&◌, true≢false, false≢true}
 use mathlib.Core.Logic.{◌⊎◌, inl, inr, ⊎_elim}
 use mathlib.Core.List.{List, []}
-use mathlib.Core.Option.{none, some, none-ne-some, some-ne-none}
+use Rattle.std.specs.Prelude.{Some, None}
 use borrow.Author.Tests.{eqb-true, eq-eqb, ne_eqb, le-leb, lt-leb}
 use native.Mathlib.Omega.{arith}
 use lib.Dec.{leb, eqb}
@@ -36,14 +36,14 @@ fresh settings = (refl, refl)
 -- ---- the laws of a station
 
 -- An outgoing or held record of a neighbour is a record, and has a deadline.
-seen : (p : ℕ) (r : Entry) → (some_out (out_of p r) ≡ true) ⊎ (some_held (held_of p r) ≡ true) → (is_free r ≡ false) × (due_of p r ≡ some r.deadline)
+seen : (p : ℕ) (r : Entry) → (some_out (out_of p r) ≡ true) ⊎ (some_held (held_of p r) ≡ true) → (is_free r ≡ false) × (due_of p r ≡ Some r.deadline)
 seen p r there =
     by_cases (eqb r.state 1 && eqb r.neighbour p) (of 1 (omega arith) (omega arith))
     (λ t. by_cases (eqb r.state 2 && eqb r.neighbour p) (of 2 (omega arith) (omega arith))
     (λ u. by_cases (eqb r.state 3 && eqb r.neighbour p) (of 3 (omega arith) (omega arith))
     (λ v. absurd (⊎_elim (λ o. false≢true (rw (t, u) at o)) (λ h. false≢true (rw v at h)) there))))
   where
-    of : (k : ℕ) → 1 ≤ k → k ≤ 3 → (eqb r.state k && eqb r.neighbour p) ≡ true → (is_free r ≡ false) × (due_of p r ≡ some r.deadline)
+    of : (k : ℕ) → 1 ≤ k → k ≤ 3 → (eqb r.state k && eqb r.neighbour p) ≡ true → (is_free r ≡ false) × (due_of p r ≡ Some r.deadline)
     of k low high t =
         let both = both_true (eqb r.state k) (eqb r.neighbour p) t in
         let state = eqb-true r.state k both.0 in
@@ -82,7 +82,7 @@ laws {s} reached =
 -- ---- the laws of a step: it makes a record, or turns each
 
 module _ (s : Station) (sound : Sound s) (e : Record) where
-  issue_of_lem : {a : Answer} → Turn s e a → (i : ℕ) → issued a ≡ some i → Issues i s a
+  issue_of_lem : {a : Answer} → Turn s e a → (i : ℕ) → issued a ≡ Some i → Issues i s a
   issue_of_lem {a} (starts k found formed nine) i new =
       let same : issue s ≡ i = cc in
       rw (← same) (made_issues s sound k found (started e s) refl refl a refl)
@@ -91,11 +91,11 @@ module _ (s : Station) (sound : Sound s) (e : Record) where
       rw (← same) (made_issues s sound k found (held_for e admission s) refl refl a refl)
   issue_of_lem (turns t) i new =
       let word = nothing_new t.says in
-      absurd (none-ne-some i (rw (word.0, word.1) at new))
+      absurd (cc (rw (word.0, word.1) at new))
 
-  none_of : {a : Answer} → Turn s e a → Sound a.station → issued a ≡ none → IssuesNone s a
-  none_of (starts k found formed nine) after old = absurd (some-ne-none (issue s) old)
-  none_of (admits k found formed one admission) after old = absurd (some-ne-none (issue s) old)
+  none_of : {a : Answer} → Turn s e a → Sound a.station → issued a ≡ None → IssuesNone s a
+  none_of (starts k found formed nine) after old = absurd cc
+  none_of (admits k found formed one admission) after old = absurd cc
   none_of {a} (turns t) after old = turned_issues_none s sound e a after t
 
   source_of : {a : Answer} → Turn s e a → Sound a.station → (p : ℕ) → Source p s e a
@@ -134,8 +134,8 @@ module _ (s : Station) (sound : Sound s) (e : Record) where
       (λ t. holds (record { no_acknowledge = rw t; no_failure = refl; no_release = refl; shrinks = λ j. inl (made_same m (held_of p) (rw t) j) }))
   target_of {a} (turns t) after p = turned_target s sound e a after t p
 
-  due_of_lem : {a : Answer} → Turn s e a → Sound a.station → (p i d : ℕ) → due a.station p i ≡ some d
-      → (due s p i ≡ some d) ⊎ (to 1 p a ≡ true) ⊎ (to 2 p a ≡ true) ⊎ ((e.kind ≡ 2) × (e.neighbour ≡ p))
+  due_of_lem : {a : Answer} → Turn s e a → Sound a.station → (p i d : ℕ) → due a.station p i ≡ Some d
+      → (due s p i ≡ Some d) ⊎ (to 1 p a ≡ true) ⊎ (to 2 p a ≡ true) ⊎ ((e.kind ≡ 2) × (e.neighbour ≡ p))
   unfolding due
   due_of_lem (starts k found formed nine) after p i d timer =
       by_cases (eqb e.neighbour p) (λ t. inr (inl (rw t)))
@@ -172,5 +172,5 @@ module _ (p : ℕ) (a : Answer) where
       (eqb-true (sent a).kind k both.0, eqb-true (sent a).neighbour p both.1)
 
   -- A request's Old ID and an acknowledge's New ID are the own ID that is issued.
-  pub request_issues : to 1 p a ≡ true → issued a ≡ some (sent a).old.0
+  pub request_issues : to 1 p a ≡ true → issued a ≡ Some (sent a).old.0
   request_issues t = rw (eq-eqb (sent a).kind 1 (to_means 1 t).0)

@@ -1,4 +1,5 @@
 -- What is seen of a station in which a record was made, with the own ID that was issued.
+use Rattle.std.specs.Prelude.{Some}
 use Prim.Native.Nat.{ℕ, ◌+◌, ◌<◌}
 use mathlib.Core.Path.{◌≡◌, refl, sym, ap, ◌∙◌}
 use mathlib.Core.Bool.{Bool, true, false, cond, true≢false}
@@ -13,7 +14,6 @@ use Rattle.laws.proofs.Sums.{total_set}
 use Rattle.laws.proofs.Tests.{by_cases}
 use Rattle.table.specs.declared.Answer.{Answer}
 use Rattle.handover.specs.declared.Entry.{Entry}
-use Rattle.places.specs.declared.Found.TheVariants.{At}
 use Rattle.table.specs.declared.Station.{Station}
 use Rattle.handover.specs.Numbers.{is_free, blank, own, own_is}
 use Rattle.table.specs.Sound.{Sound}
@@ -39,7 +39,7 @@ made_same {s = s} m view same i =
     (λ t. rw (eqb-true i (issue s) t, m.here, m.new) same)
     (λ t. ap view (m.others i (eqb-false i (issue s) t)))
 
-module _ (s : Station) (sound : Sound s) (k : ℕ) (found : find is_free s ≡ At k) (r : Entry) (mine : own r ≡ issue s) (live : is_free r ≡ false) where
+module _ (s : Station) (sound : Sound s) (k : ℕ) (found : find is_free s ≡ Some k) (r : Entry) (mine : own r ≡ issue s) (live : is_free r ≡ false) where
   place : k < length s.entries
   place = (found_here is_free s k found).0
 

@@ -11,7 +11,8 @@ use lib.ListN.{length}
 use lib.Seq.{length-take-le}
 use Rattle.laws.proofs.Tests.{by_cases, both_true}
 use Rattle.records.specs.declared.Record.{Record}
-use Rattle.fields.specs.Fields.{a_request, sort_of_event, well_formed}
+use Rattle.fields.specs.declared.Sort.TheVariants.{Request}
+use Rattle.fields.specs.Fields.{same_sort, sort_of_event, well_formed}
 use Rattle.fields.proofs.Agreeing.{bearer_formed_lem}
 use Rattle.fields.proofs.Forms.{request_counted, number_within}
 use Rattle.bearers.specs.Bearer.{records_in, all_bearers}
@@ -19,10 +20,10 @@ use Rattle.answers.proofs.Flaws.{flaw_in_listed}
 use Rattle.table.specs.declared.Answer.{Answer}
 use Rattle.table.specs.declared.Station.{Station}
 use Rattle.table.specs.Step.{complete, taken, step_of, verdicts_of}
-use Rattle.table.proofs.Requests.{flaw_at_listed}
+use Rattle.table.proofs.Requests.{lacking}
 use Rattle.promises.specs.Malformed.{all_formed, is_served, is_malformed}
 use Rattle.promises.proofs.Replies.{malformed_only}
-use Rattle.promises.proofs.Rows.{malformed_step, incomplete_step}
+use Rattle.promises.proofs.Rows.{malformed_step, lacking_step}
 
 -- A record is a bearer's by its limits as by document 01.
 same_bearers : (rs : List Record) → all_bearers rs ≡ all_formed rs
@@ -55,9 +56,8 @@ module _ (s : Station) (e : Record) (bearers : List ℕ) (room : ℕ) where
       (λ formed.
       let both = both_true (eqb e.kind 1) (not (is_served e bearers room)) (rw formed at bad) in
       let one = eqb-true e.kind 1 both.0 in
-      let lacking = served e bearers room formed one ∙ not-true (is_served e bearers room) both.1 in
-      let listed = flaw_at_listed e bearers room lacking in
-      told _ (ap (λ (a : Answer). a.outcome.reply) (incomplete_step s e bearers room formed one lacking)) (omega (arith, listed.0), listed.1))
+      let l = lacking e bearers room (served e bearers room formed one ∙ not-true (is_served e bearers room) both.1) in
+      told _ (ap (λ (a : Answer). a.outcome.reply) (lacking_step s e bearers room formed one l)) (omega (arith, l.low), l.high))
       (λ malformed.
       let listed = flaw_in_listed e in
       told _ (ap (λ (a : Answer). a.outcome.reply) (malformed_step s e bearers room malformed)) (listed.0, omega (arith, listed.1)))
@@ -68,8 +68,8 @@ module _ (s : Station) (e : Record) (bearers : List ℕ) (room : ℕ) where
       ⊎_elim
       (λ malformed. rw malformed)
       (λ request.
-      let lacking = sym (served e bearers room request.0 request.1) ∙ request.2 in
-      rw (request.0, eq-eqb e.kind 1 request.1, lacking))
+      let less = sym (served e bearers room request.0 request.1) ∙ request.2 in
+      rw (request.0, eq-eqb e.kind 1 request.1, less))
       (malformed_only s e bearers room ten)
 
 -- It writes no verdict.
@@ -78,6 +78,6 @@ malformed_unwritten s e bearers buffer bad =
     by_cases (well_formed e)
     (λ formed.
     let both = both_true (eqb e.kind 1) (not (is_served e bearers (length buffer))) (rw formed at bad) in
-    let lacking = served e bearers (length buffer) formed (eqb-true e.kind 1 both.0) ∙ not-true (is_served e bearers (length buffer)) both.1 in
-    by_cases (eqb (sort_of_event e) a_request) (λ t. rw (t, lacking)) (λ t. rw t))
+    let less = served e bearers (length buffer) formed (eqb-true e.kind 1 both.0) ∙ not-true (is_served e bearers (length buffer)) both.1 in
+    by_cases (same_sort (sort_of_event e) Request) (λ t. rw (t, less)) (λ t. rw t))
     (λ malformed. rw malformed)

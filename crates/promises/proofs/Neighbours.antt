@@ -1,4 +1,5 @@
 -- What a neighbour's message changes, and what its answer depends on.
+use Rattle.std.specs.Prelude.{Option, Some, None}
 use Prim.Native.Nat.{ℕ, ◌+◌, ◌≤◌}
 use mathlib.Core.Path.{◌≡◌, refl, ◌∙◌, sym, ap}
 use mathlib.Core.Bool.{true, false, not, ◌&&◌, true≢false}
@@ -11,13 +12,14 @@ use lib.ListN.{get_or}
 use lib.Seq.{get_or-set_other}
 use Rattle.laws.proofs.Tests.{by_cases, both_true, between, refuted}
 use Rattle.records.specs.declared.Record.{Record}
+use Rattle.handover.specs.declared.Action.{Action}
+use Rattle.handover.specs.declared.Action.TheVariants.{Prepared}
 use Rattle.handover.specs.declared.Entry.{Entry}
-use Rattle.places.specs.declared.Found.{Found}
-use Rattle.places.specs.declared.Found.TheVariants.{At, Nothing}
 use Rattle.table.specs.declared.Station.{Station}
-use Rattle.handover.specs.Events.{about, action_of, resets, decide}
+use Rattle.handover.specs.Events.{about, action_of, same_action, resets, does, decide}
 use Rattle.fields.proofs.Sorts.{every_of_sort}
-use Rattle.fields.specs.Fields.{all_of_neighbour, sort_of, well_formed}
+use Rattle.fields.specs.declared.Sort.TheVariants.{AllOfNeighbour}
+use Rattle.fields.specs.Fields.{sort_of, well_formed}
 use Rattle.handover.specs.Numbers.{is_free, blank}
 use Rattle.table.specs.Step.{about_one, step_of}
 use Rattle.table.specs.Table.{find, left_of, reset}
@@ -61,9 +63,9 @@ not_about e r concerns other =
     refuted (about e r) (λ t. true≢false (sym (about_of e r concerns t) ∙ other))
 
 module _ (s : Station) (e : Record) (concerns : concerns_neighbour e.kind ≡ true) where
-  about_keeps : (found : Found) → find (about e) s ≡ found → OthersKept e.neighbour s (about_one e found s).station
-  about_keeps Nothing _ = kept e.neighbour s
-  about_keeps (At k) found =
+  about_keeps : (found : Option ℕ) → find (about e) s ≡ found → OthersKept e.neighbour s (about_one e found s).station
+  about_keeps None _ = kept e.neighbour s
+  about_keeps (Some k) found =
       let here = found_here (about e) s k found in
       let x = get_or s.entries k blank in
       let r = (decide e x (s.clock + s.settings.overall)).entry in
@@ -93,19 +95,19 @@ module _ (s : Station) (e : Record) (bearers : List ℕ) (room : ℕ) (formed : 
   pub message_changes_one : 2 ≤ e.kind → e.kind ≤ 6 → (k : ℕ) × ((i : ℕ) → (i ≡ k → ⊥) → get_or (step_of s e bearers room).station.entries i blank ≡ get_or s.entries i blank)
   message_changes_one low high = rw (step_about s e bearers room formed low high) (at_one (find (about e) s))
     where
-      at_one : (found : Found) → (k : ℕ) × ((i : ℕ) → (i ≡ k → ⊥) → get_or (about_one e found s).station.entries i blank ≡ get_or s.entries i blank)
-      at_one Nothing = (0, λ _ _. refl)
-      at_one (At k) = (k, λ i other. get_or-set_other s.entries k i (decide e (get_or s.entries k blank) (s.clock + s.settings.overall)).entry blank other)
+      at_one : (found : Option ℕ) → (k : ℕ) × ((i : ℕ) → (i ≡ k → ⊥) → get_or (about_one e found s).station.entries i blank ≡ get_or s.entries i blank)
+      at_one None = (0, λ _ _. refl)
+      at_one (Some k) = (k, λ i other. get_or-set_other s.entries k i (decide e (get_or s.entries k blank) (s.clock + s.settings.overall)).entry blank other)
 
   -- A reset, and the loss of a neighbour, leave every place but that neighbour's records as it was, and the clock, the last own ID and
   -- the settings.
-  pub reset_keeps_others : sort_of e.kind ≡ all_of_neighbour → OthersKept e.neighbour s (step_of s e bearers room).station
+  pub reset_keeps_others : sort_of e.kind ≡ AllOfNeighbour → OthersKept e.neighbour s (step_of s e bearers room).station
   reset_keeps_others t =
-      rw (step_reset s e bearers room formed t) (reset_keeps s e (every_of_sort all_of_neighbour concerns_neighbour refl refl e.kind t))
+      rw (step_reset s e bearers room formed t) (reset_keeps s e (every_of_sort AllOfNeighbour concerns_neighbour refl refl e.kind t))
 
   -- 7 and 14: all outgoing and held records of that neighbour end, and every other place is as it was.
   module _ (reset : (e.kind ≡ 7) ⊎ (e.kind ≡ 14)) (j : ℕ) where
-    sort : sort_of e.kind ≡ all_of_neighbour
+    sort : sort_of e.kind ≡ AllOfNeighbour
     sort = ⊎_elim (λ seven. ap sort_of seven) (λ fourteen. ap sort_of fourteen) reset
 
     left : get_or (step_of s e bearers room).station.entries j blank ≡ left_of e (get_or s.entries j blank)
@@ -143,10 +145,14 @@ message_keeps_others s e bearers room low high =
 -- ---- what it depends on
 
 -- The deadline that an acknowledge would set matters to an acknowledge alone.
+does_deadline : (action : Action) (e : Record) (r : Entry) (c d : ℕ) → same_action action Prepared ≡ false → does action e r c ≡ does action e r d
+does_deadline Prepared e r c d never = absurd (true≢false never)
+does_deadline action e r c d other = refl
+
 pub decide_deadline : (e : Record) (r : Entry) (c d : ℕ) → (e.kind ≡ 2 → c ≡ d) → decide e r c ≡ decide e r d
 decide_deadline e r c d same =
     by_cases (eqb e.kind 2)
     (λ t. ap (decide e r) (same (eqb-true e.kind 2 t)))
     (λ t.
-    let other : eqb (action_of e.kind r.state) 11 ≡ false = by_cases (eqb (action_of e.kind r.state) 11) (λ u. absurd (eqb-false e.kind 2 t (stands 11 2 1 e.kind r.state refl refl u).0)) (λ u. u) in
-    rw other)
+    let action = action_of e.kind r.state in
+    does_deadline action e r c d (refuted (same_action action Prepared) (λ u. eqb-false e.kind 2 t (stands Prepared 2 1 e.kind r.state refl refl u).0)))

@@ -1,4 +1,5 @@
 -- Where in the table a neighbour's records stand does not matter.
+use Rattle.std.specs.Prelude.{Option, Some, None}
 use Prim.Native.Nat.{ℕ, ◌+◌, ◌≤◌, ◌<◌}
 use mathlib.Core.Path.{◌≡◌, refl, ◌∙◌, sym, ap, subst}
 use mathlib.Core.Bool.{Bool, true, false, not, ◌&&◌, ◌||◌, true≢false, false≢true}
@@ -15,11 +16,10 @@ use Rattle.records.specs.declared.Record.{Record}
 use Rattle.table.specs.declared.Answer.{Answer}
 use Rattle.handover.specs.declared.Decision.{Decision}
 use Rattle.handover.specs.declared.Entry.{Entry}
-use Rattle.places.specs.declared.Found.{Found}
-use Rattle.places.specs.declared.Found.TheVariants.{At, Nothing}
 use Rattle.table.specs.declared.Station.{Station}
 use Rattle.handover.specs.Events.{about, resets, decide, key}
-use Rattle.fields.specs.Fields.{all_of_neighbour, sort_of, well_formed}
+use Rattle.fields.specs.declared.Sort.TheVariants.{AllOfNeighbour}
+use Rattle.fields.specs.Fields.{sort_of, well_formed}
 use Rattle.handover.specs.Numbers.{is_free, blank, own}
 use Rattle.table.specs.Sound.{Sound, own_times, held_times}
 use Rattle.table.specs.Step.{about_one, carried, step_of}
@@ -138,7 +138,7 @@ pub record SameAnswer (to from : ℕ → ℕ) (n : ℕ) (a b : Answer) : Type 0 
   pub records : Same to from n a.station b.station
 
 module _ (e : Record) (low : 2 ≤ e.kind) (high : e.kind ≤ 6) where
-  module _ (to : ℕ → ℕ) (s t : Station) (sound : Sound s) (other : Sound t) (has : Has to e.neighbour s t) (i : ℕ) (found : find (about e) s ≡ At i) where
+  module _ (to : ℕ → ℕ) (s t : Station) (sound : Sound s) (other : Sound t) (has : Has to e.neighbour s t) (i : ℕ) (found : find (about e) s ≡ Some i) where
     -- What the one station finds, the other has, and the event is about it there too.
     twin : (to i < 64) × (get_or t.entries (to i) blank ≡ get_or s.entries i blank) × (about e (get_or t.entries (to i) blank) ≡ true)
     twin =
@@ -147,18 +147,18 @@ module _ (e : Record) (low : 2 ≤ e.kind) (high : e.kind ≤ 6) where
         (there.0, there.1, ap (about e) there.1 ∙ mine)
 
     -- So it finds that.
-    not_nothing : find (about e) t ≡ Nothing → ⊥
-    not_nothing none = true≢false (sym twin.2 ∙ none_at (about e) t.entries (to i) (omega (arith, twin.0, other.places)) (found_none (about e) t.entries 0 none))
+    not_nothing : find (about e) t ≡ None → ⊥
+    not_nothing none = true≢false (sym twin.2 ∙ none_at (about e) t.entries (to i) (omega (arith, twin.0, other.places)) (found_none (about e) t.entries none))
 
-    no_other : (j : ℕ) → find (about e) t ≡ At j → to i ≡ j
+    no_other : (j : ℕ) → find (about e) t ≡ Some j → to i ≡ j
     no_other j there = about_once e low high t other (to i) j twin.0 (found_place t other (about e) j there) twin.2 (found_here (about e) t j there).1
 
   module _ (to from : ℕ → ℕ) (s t : Station) (sound : Sound s) (other : Sound t) (same : Same to from e.neighbour s t) (timer : e.kind ≡ 2 → s.clock + s.settings.overall ≡ t.clock + t.settings.overall) where
-    answers : (f g : Found) → find (about e) s ≡ f → find (about e) t ≡ g → SameAnswer to from e.neighbour (about_one e f s) (about_one e g t)
-    answers Nothing Nothing _ _ = record { outcome = refl; records = same }
-    answers Nothing (At j) none found = absurd (not_nothing from t s other sound same.back j found none)
-    answers (At i) Nothing found none = absurd (not_nothing to s t sound other same.there i found none)
-    answers (At i) (At j) first second =
+    answers : (f g : Option ℕ) → find (about e) s ≡ f → find (about e) t ≡ g → SameAnswer to from e.neighbour (about_one e f s) (about_one e g t)
+    answers None None _ _ = record { outcome = refl; records = same }
+    answers None (Some j) none found = absurd (not_nothing from t s other sound same.back j found none)
+    answers (Some i) None found none = absurd (not_nothing to s t sound other same.there i found none)
+    answers (Some i) (Some j) first second =
         let here = found_place s sound (about e) i first in
         let there = found_place t other (about e) j second in
         let place = no_other to s t sound other same.there i first j second in
@@ -189,7 +189,7 @@ has_reset to n e s t has p small mine =
 module _ (to from : ℕ → ℕ) (s t : Station) (e : Record) (bearers more : List ℕ) (room space : ℕ) (same : Same to from e.neighbour s t) where
   -- A reset, and the loss of a neighbour, are answered the same by every station, and where two have the same records of that neighbour,
   -- they have the same afterwards.
-  pub reset_depends_on_none : well_formed e ≡ true → sort_of e.kind ≡ all_of_neighbour → SameAnswer to from e.neighbour (step_of s e bearers room) (step_of t e more space)
+  pub reset_depends_on_none : well_formed e ≡ true → sort_of e.kind ≡ AllOfNeighbour → SameAnswer to from e.neighbour (step_of s e bearers room) (step_of t e more space)
   reset_depends_on_none formed kinds =
       rw (step_reset s e bearers room formed kinds, step_reset t e more space formed kinds)
       (record { outcome = refl; records = record { there = has_reset to e.neighbour e s t same.there; back = has_reset from e.neighbour e t s same.back } })

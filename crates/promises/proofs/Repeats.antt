@@ -22,9 +22,9 @@ use Rattle.handover.proofs.Keys.{request_about}
 use Rattle.places.proofs.Finding.{by_found, found_none}
 use Rattle.table.proofs.Finding.{found_here}
 use Rattle.table.proofs.Placing.{found_place}
-use Rattle.table.proofs.Requests.{flaw_at_listed}
+use Rattle.table.proofs.Requests.{lacking}
 use Rattle.table.proofs.Tally.{none_at}
-use Rattle.promises.proofs.Rows.{incomplete_step, repeat_step, crowded_step, empty_step, grant_step}
+use Rattle.promises.proofs.Rows.{lacking_step, repeat_step, crowded_step, empty_step, grant_step}
 
 -- a record that is held for an event's neighbour and its Old ID
 pub record HeldFor (e : Record) (r : Entry) : Type 0 where
@@ -39,7 +39,7 @@ module _ (s : Station) (sound : Sound s) (e : Record) (bearers : List ℕ) (room
       let r = get_or s.entries j blank in
       let mine : about e r ≡ true = request_about e r kind ∙ rw (eq-eqb r.state 3 h.held, eq-eqb r.neighbour e.neighbour h.neighbour, eq-eqb r.old.0 e.old.0 h.old) in
       by_found (find (about e) s)
-      (λ none. absurd (true≢false (sym mine ∙ none_at (about e) s.entries j (omega (arith, sound.places)) (found_none (about e) s.entries 0 none))))
+      (λ none. absurd (true≢false (sym mine ∙ none_at (about e) s.entries j (omega (arith, sound.places)) (found_none (about e) s.entries none))))
       (λ i found. repeat_step s e bearers room formed kind whole i found)
 
   -- Where a request gets 3, such a record stands.
@@ -58,7 +58,9 @@ module _ (s : Station) (sound : Sound s) (e : Record) (bearers : List ℕ) (room
       let both = both_true (eqb r.state 3 && eqb r.neighbour e.neighbour) (eqb r.old.0 e.old.0) all in
       let two = both_true (eqb r.state 3) (eqb r.neighbour e.neighbour) both.0 in
       (j, found_place s sound (about e) j found, record { held = eqb-true r.state 3 two.0; neighbour = eqb-true r.neighbour e.neighbour two.1; old = eqb-true r.old.0 e.old.0 both.1 })))
-      (λ lacking. absurd (other (incomplete_step s e bearers room formed kind lacking) (λ is. omega (arith, is, (flaw_at_listed e bearers room lacking).0))))
+      (λ less.
+      let l = lacking e bearers room less in
+      absurd (other (lacking_step s e bearers room formed kind l) (λ is. omega (arith, is, l.low))))
     where
       other : {a : Answer} → step_of s e bearers room ≡ a → (a.outcome.reply ≡ 3 → ⊥) → ⊥
       other is not_three = not_three (rw is at three)

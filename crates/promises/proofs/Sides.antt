@@ -4,7 +4,7 @@ use mathlib.Core.Path.{◌≡◌, refl, sym, ◌∙◌}
 use mathlib.Core.Bool.{Bool, true, false, ◌&&◌, true≢false}
 use mathlib.Core.Logic.{◌⊎◌, inl, inr}
 use mathlib.Core.List.{List}
-use mathlib.Core.Option.{some, none-ne-some}
+use Rattle.std.specs.Prelude.{Some}
 use borrow.Author.Tests.{eqb-true, eq-eqb, ne_eqb, leb-true}
 use native.Mathlib.Omega.{arith}
 use lib.Dec.{leb, eqb}
@@ -50,15 +50,15 @@ module _ {e : Record} {z : ℕ} {x : Entry} where
   held_kept (ends _ _) p = inr refl
 
   -- A deadline stays, or comes with an acknowledge.
-  due_kept : {y : Entry} → Change e z x y → (p d : ℕ) → due_of p y ≡ some d → (due_of p x ≡ some d) ⊎ ((e.kind ≡ 2) × (e.neighbour ≡ p))
+  due_kept : {y : Entry} → Change e z x y → (p d : ℕ) → due_of p y ≡ Some d → (due_of p x ≡ Some d) ⊎ ((e.kind ≡ 2) × (e.neighbour ≡ p))
   due_kept stays p d timer = inl timer
   due_kept stores p d timer = inl timer
   due_kept (prepares deadline _ two _ neighbour _) p d timer =
       by_cases (eqb x.neighbour p)
       (λ t. inr (two, sym neighbour ∙ eqb-true x.neighbour p t))
-      (λ t. absurd (none-ne-some d (rw t at timer)))
-  due_kept (serves _) p d timer = absurd (none-ne-some d timer)
-  due_kept (ends _ _) p d timer = absurd (none-ne-some d timer)
+      (λ t. absurd (cc (rw t at timer)))
+  due_kept (serves _) p d timer = absurd cc
+  due_kept (ends _ _) p d timer = absurd cc
 
 -- ---- outgoing records
 
@@ -139,7 +139,7 @@ module _ (s : Station) (sound : Sound s) (e : Record) (a : Answer) (after : Soun
             omega (arith, count_own test s.entries, count_own test a.station.entries);
       }
 
-  pub turned_due : (p i d : ℕ) → due a.station p i ≡ some d → (due s p i ≡ some d) ⊎ ((e.kind ≡ 2) × (e.neighbour ≡ p))
+  pub turned_due : (p i d : ℕ) → due a.station p i ≡ Some d → (due s p i ≡ Some d) ⊎ ((e.kind ≡ 2) × (e.neighbour ≡ p))
   unfolding due
   turned_due p i d timer = due_kept (changed i) p d timer
 

@@ -112,11 +112,11 @@ pub record Stores (s : Station) (e : Record) (after : Station) : Type 0 where
 module _ (s : Station) (sound : Sound s) (e : Record) (bearers : List ℕ) (room : ℕ) (four : e.kind ≡ 4) where
   part_stores : {a : Answer} → Part s e bearers room a → a.outcome.reply ≡ 0 → Stores s e a.station
   part_stores (as_refusal f refusal) zero = absurd (omega (arith, refusal.low))
-  part_stores (as_response kind) zero = absurd (omega (arith, rw four at kind))
+  part_stores (as_response kind) zero = absurd (cc (rw four at kind))
   part_stores (as_failure n low _ _) zero = absurd (omega arith)
   part_stores (as_grant i _ one _ _ _) zero = absurd (omega arith)
   part_stores (as_start i _ nine _) zero = absurd (omega arith)
-  part_stores (as_reset kind) zero = absurd (omega (arith, rw four at kind))
+  part_stores (as_reset kind) zero = absurd (cc (rw four at kind))
   part_stores (as_idle _ _) zero = absurd (omega arith)
   part_stores (as_tick i _ fifteen _) zero = absurd (omega arith)
   part_stores (as_event i _ _ found) zero =

@@ -1,6 +1,6 @@
 -- What a request takes of the bytes after it: as many bearers as it counts, and nothing beyond.
 use Prim.Native.Nat.{ℕ, ◌*◌, ◌/◌, ◌%◌, ◌≤◌, ◌<◌}
-use mathlib.Core.Path.{◌≡◌, ◌∙◌}
+use mathlib.Core.Path.{◌≡◌, refl}
 use mathlib.Core.Bool.{true, ◌&&◌}
 use mathlib.Core.List.{List, ◌++◌}
 use borrow.Author.Tests.{leb-true, le-leb, lt-leb}
@@ -12,11 +12,14 @@ use Rattle.laws.proofs.Tests.{both_true, refuted}
 use Rattle.records.specs.declared.Record.{Record}
 use Rattle.bearers.specs.Admission.{countable, judgeable}
 use Rattle.bearers.specs.Bearer.{records_in, all_bearers}
-use Rattle.fields.specs.Fields.{well_formed}
+use Rattle.fields.specs.declared.Sort.{Sort}
+use Rattle.fields.specs.declared.Sort.TheVariants.{Request}
+use Rattle.fields.specs.Fields.{sort_of_event, well_formed}
 use Rattle.table.specs.declared.Station.{Station}
 use Rattle.answers.specs.Answers.{missing}
-use Rattle.table.specs.Step.{malformed, flaw_at, complete, taken, step_of, verdicts_of}
-use Rattle.promises.proofs.Rows.{incomplete_step}
+use Rattle.table.specs.Step.{malformed, complete, taken, by_sort, step_of, verdicts_of}
+use Rattle.table.proofs.Requests.{Lacking, lacking}
+use Rattle.promises.proofs.Rows.{lacking_step}
 
 module _ (s : Station) (e : Record) (bearers : List ℕ) where
   module _ (room : ℕ) (formed : well_formed e ≡ true) (kind : e.kind ≡ 1) where
@@ -24,11 +27,14 @@ module _ (s : Station) (e : Record) (bearers : List ℕ) where
     pub too_few : length bearers < e.number * 32 → step_of s e bearers room ≡ malformed missing s
     too_few fewer =
         let few = lt-leb (e.number * 32) (length bearers) fewer in
-        incomplete_step s e bearers room formed kind (rw few) ∙ rw few
+        let l : Lacking e bearers room = record { flaw = missing; is = rw few; low = omega arith; high = omega arith } in
+        lacking_step s e bearers room formed kind l
 
     -- "verdict buffer too short": what is wrong is that, or something ahead of it
-    pub too_short : room < e.number → step_of s e bearers room ≡ malformed (flaw_at e bearers room) s
-    too_short short = incomplete_step s e bearers room formed kind (refuted (complete e bearers room) never)
+    pub too_short : room < e.number → (l : Lacking e bearers room) × (step_of s e bearers room ≡ malformed l.flaw s)
+    too_short short =
+        let l = lacking e bearers room (refuted (complete e bearers room) never) in
+        (l, lacking_step s e bearers room formed kind l)
       where
         never : complete e bearers room ≡ true → ⊥
         never t =
@@ -40,9 +46,13 @@ module _ (s : Station) (e : Record) (bearers : List ℕ) where
 
   -- Nothing beyond what it counts makes a difference.
   module _ (more : List ℕ) (enough : e.number * 32 ≤ length bearers) where
-    pub nothing_beyond : (room : ℕ) → step_of s e (bearers ++ more) room ≡ step_of s e bearers room
-    nothing_beyond room =
+    by_sort_beyond : (room : ℕ) (sort : Sort) → by_sort sort e (bearers ++ more) room s ≡ by_sort sort e bearers room s
+    by_sort_beyond room Request =
         rw (take-append-le (e.number * 32) bearers more, le-leb (e.number * 32) (length bearers) enough, le-leb (e.number * 32) (length (bearers ++ more)) (simp length-append (omega arith)))
+    by_sort_beyond room other = refl
+
+    pub nothing_beyond : (room : ℕ) → step_of s e (bearers ++ more) room ≡ step_of s e bearers room
+    nothing_beyond room = by_sort_beyond room (sort_of_event e)
 
     pub verdicts_beyond : (buffer : List ℕ) → verdicts_of s e (bearers ++ more) buffer ≡ verdicts_of s e bearers buffer
     verdicts_beyond buffer =

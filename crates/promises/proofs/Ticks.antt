@@ -1,4 +1,6 @@
 -- Of the records that are due a tick handles the soonest, and repeated at the same time it handles them all.
+use Rattle.std.specs.List.{list_any}
+use Rattle.std.specs.Prelude.{Option, Some, None}
 use Prim.Native.Nat.{ℕ, zero, suc, ◌+◌, ◌≤◌, ◌<◌}
 use mathlib.Core.Path.{◌≡◌, refl, sym, ap, ◌∙◌, subst}
 use mathlib.Core.Bool.{Bool, true, false, cond, ◌&&◌, ◌||◌, true≢false}
@@ -11,20 +13,20 @@ use lib.ListN.{length, get_or, set}
 use lib.Seq.{get_or-set_same, get_or-set_other}
 use Rattle.laws.proofs.Sums.{total_le, total_set, total_each}
 use Rattle.laws.specs.Sums.{total}
-use Rattle.laws.proofs.Tests.{by_cases, both_true, between, neither, refuted}
+use Rattle.laws.proofs.Tests.{by_cases, both_true, between, refuted}
 use Rattle.records.specs.declared.Record.{Record}
 use Rattle.table.specs.declared.Answer.{Answer}
-use Rattle.table.specs.declared.Best.{Best}
+use Rattle.places.specs.declared.Best.{Best}
 use Rattle.handover.specs.declared.Entry.{Entry}
-use Rattle.places.specs.declared.Found.TheVariants.{At, Nothing}
 use Rattle.table.specs.declared.Station.{Station}
 use Rattle.handover.specs.Events.{key, about, due_by, sooner}
 use Rattle.fields.specs.Fields.{well_formed}
-use Rattle.handover.specs.Numbers.{is_free, blank, own, any_of}
+use Rattle.handover.specs.Numbers.{is_free, blank, own}
 use Rattle.table.specs.Sound.{Sound}
 use Rattle.table.specs.Step.{refused, step_of}
-use Rattle.table.specs.Table.{due_from, soonest, at, put}
-use Rattle.places.proofs.Finding.{at_nothing, by_found}
+use Rattle.places.specs.Places.{beats, due_from}
+use Rattle.table.specs.Table.{soonest, at, put}
+use Rattle.places.proofs.Finding.{by_found}
 use Rattle.handover.proofs.Keys.{keyed_means, tick_about}
 use Rattle.promises.proofs.Rows.{early_step, tick_step}
 use Rattle.handover.proofs.Rows.{due_ends}
@@ -95,13 +97,22 @@ due_times e r = cond (due e r) 1 0
 
 -- where a walk that found its best and goes on over a list ends: at the best so far or at a due record of the list, to which
 -- neither the best so far nor any due record of the list is sooner
-record Ended (e : Record) (best : Best) (i k : ℕ) (rs : List Entry) : Type 0 where
+record Ended (e : Record) (best : Option Best) (i k : ℕ) (rs : List Entry) : Type 0 where
   entry : Entry
-  stands : ((best.place ≡ k) × (best.entry ≡ entry) × (is_free best.entry ≡ false)) ⊎ ((j : ℕ) × (k ≡ i + j) × (j < length rs) × (get_or rs j blank ≡ entry) × (due e entry ≡ true))
-  past : is_free best.entry ≡ false → sooner best.entry entry ≡ false
+  stands : ((b : Best) × (best ≡ Some b) × (b.place ≡ k) × (b.entry ≡ entry)) ⊎ ((j : ℕ) × (k ≡ i + j) × (j < length rs) × (get_or rs j blank ≡ entry) × (due e entry ≡ true))
+  past : (b : Best) → best ≡ Some b → sooner b.entry entry ≡ false
   first : (j : ℕ) → j < length rs → due e (get_or rs j blank) ≡ true → sooner (get_or rs j blank) entry ≡ false
 
-module _ (e : Record) (busy : (r : Entry) → due e r ≡ true → is_free r ≡ false) where
+-- No record is sooner than itself.
+not_itself : (r : Entry) → sooner r r ≡ false
+not_itself r = not_sooner r.deadline r.deadline (own r) (own r) (omega arith) (λ _. omega arith)
+
+-- A record that is not sooner than the best so far is not sooner than one to which the best so far is not.
+not_ahead : (r entry : Entry) (best : Option Best) → beats r best ≡ false → ((b : Best) → best ≡ Some b → sooner b.entry entry ≡ false) → sooner r entry ≡ false
+not_ahead r entry None t past = absurd (true≢false t)
+not_ahead r entry (Some b) t past = not_sooner_trans r b.entry entry t (past b refl)
+
+module _ (e : Record) where
   -- What holds of the first record and of those after it holds of all.
   each : (r : Entry) (rs : List Entry) (entry : Entry) → (due e r ≡ true → sooner r entry ≡ false) → ((j : ℕ) → j < length rs → due e (get_or rs j blank) ≡ true → sooner (get_or rs j blank) entry ≡ false)
       → (j : ℕ) → j < suc (length rs) → due e (get_or (r ∷ rs) j blank) ≡ true → sooner (get_or (r ∷ rs) j blank) entry ≡ false
@@ -109,20 +120,24 @@ module _ (e : Record) (busy : (r : Entry) → due e r ≡ true → is_free r ≡
   each r rs entry here on (suc j) h u = on j (omega arith) u
 
   -- One step of the walk, where the record is the best so far, and where it is not.
-  taken : (r : Entry) (rs : List Entry) (best : Best) (i k : ℕ) → due e r ≡ true → (is_free best.entry || sooner r best.entry) ≡ true → Ended e (record { place = i; entry = r }) (i + 1) k rs → Ended e best i k (r ∷ rs)
+  taken : (r : Entry) (rs : List Entry) (best : Option Best) (i k : ℕ) → due e r ≡ true → beats r best ≡ true → Ended e (Some (record { place = i; entry = r })) (i + 1) k rs → Ended e best i k (r ∷ rs)
   taken r rs best i k d t end =
+      let ahead = end.past (record { place = i; entry = r }) refl in
       record {
         entry = end.entry;
         stands =
             ⊎_elim
-            (λ here. inr (0, omega (arith, here.0), omega arith, here.1, subst (λ (x : Entry). due e x ≡ true) here.1 d))
+            (λ here.
+            let place : i ≡ here.0.place = cc (here.1) in
+            let its : r ≡ end.entry = cc (here.1, here.3) in
+            inr (0, omega (arith, here.2, place), omega arith, its, subst (λ (x : Entry). due e x ≡ true) its d))
             (λ on. inr (suc on.0, omega (arith, on.1), omega (arith, on.2), on.3, on.4))
             end.stands;
-        past = λ f. not_sooner_trans best.entry r end.entry (sooner_asym r best.entry (rw f at t)) (end.past (busy r d));
-        first = each r rs end.entry (λ _. end.past (busy r d)) end.first;
+        past = λ b is. not_sooner_trans b.entry r end.entry (sooner_asym r b.entry (rw is at t)) ahead;
+        first = each r rs end.entry (λ _. ahead) end.first;
       }
 
-  passed : (r : Entry) (rs : List Entry) (best : Best) (i k : ℕ) → (due e r && (is_free best.entry || sooner r best.entry)) ≡ false → Ended e best (i + 1) k rs → Ended e best i k (r ∷ rs)
+  passed : (r : Entry) (rs : List Entry) (best : Option Best) (i k : ℕ) → (due e r && beats r best) ≡ false → Ended e best (i + 1) k rs → Ended e best i k (r ∷ rs)
   passed r rs best i k t end =
       record {
         entry = end.entry;
@@ -132,44 +147,36 @@ module _ (e : Record) (busy : (r : Entry) → due e r ≡ true → is_free r ≡
             (λ on. inr (suc on.0, omega (arith, on.1), omega (arith, on.2), on.3, on.4))
             end.stands;
         past = end.past;
-        first = each r rs end.entry
-            (λ u.
-            let left = neither (is_free best.entry) (sooner r best.entry) (rw u at t) in
-            not_sooner_trans r best.entry end.entry left.1 (end.past left.0))
-            end.first;
+        first = each r rs end.entry (λ u. not_ahead r end.entry best (rw u at t) end.past) end.first;
       }
 
-  walked : (rs : List Entry) (best : Best) (i k : ℕ) → due_from e best i rs ≡ At k → Ended e best i k rs
+  walked : (rs : List Entry) (best : Option Best) (i k : ℕ) → due_from e best i rs ≡ Some k → Ended e best i k rs
   unfolding due_from
-  walked [] best i k found =
-      by_cases (is_free best.entry)
-      (λ t. absurd (at_nothing k (sym (rw t at found))))
-      (λ t.
-      let here : At best.place ≡ At k = rw t at found in
+  walked [] None i k found = absurd cc
+  walked [] (Some b) i k found =
       record {
-        entry = best.entry;
-        stands = inl ((cc), refl, t);
-        past = λ _. not_sooner best.entry.deadline best.entry.deadline (own best.entry) (own best.entry) (omega arith) (λ _. omega arith);
+        entry = b.entry;
+        stands = inl (b, refl, cc, refl);
+        past = λ other is. let same : b.entry ≡ other.entry = cc in rw (← same) (not_itself b.entry);
         first = λ j h. absurd (omega arith);
-      })
+      }
   walked (r ∷ rs) best i k found =
-      by_cases (due e r && (is_free best.entry || sooner r best.entry))
+      by_cases (due e r && beats r best)
       (λ t.
-      let both = both_true (due e r) (is_free best.entry || sooner r best.entry) t in
-      taken r rs best i k both.0 both.1 (walked rs (record { place = i; entry = r }) (i + 1) k (rw t at found)))
+      let both = both_true (due e r) (beats r best) t in
+      taken r rs best i k both.0 both.1 (walked rs (Some (record { place = i; entry = r })) (i + 1) k (rw t at found)))
       (λ t. passed r rs best i k t (walked rs best (i + 1) k (rw t at found)))
 
   -- A walk that finds nothing had no best so far, and passes no due record.
-  missed : (rs : List Entry) (best : Best) (i : ℕ) → due_from e best i rs ≡ Nothing → (is_free best.entry ≡ true) × (any_of (due e) rs ≡ false)
-  unfolding due_from any_of
-  missed [] best i found =
-      by_cases (is_free best.entry) (λ t. (t, refl))
-      (λ t. absurd (at_nothing best.place (rw t at found)))
+  missed : (rs : List Entry) (best : Option Best) (i : ℕ) → due_from e best i rs ≡ None → (best ≡ None) × (list_any (due e) rs ≡ false)
+  unfolding due_from
+  missed [] None i found = (refl, refl)
+  missed [] (Some b) i found = absurd cc
   missed (r ∷ rs) best i found =
-      by_cases (due e r && (is_free best.entry || sooner r best.entry))
+      by_cases (due e r && beats r best)
       (λ t.
-      let d = (both_true (due e r) (is_free best.entry || sooner r best.entry) t).0 in
-      absurd (true≢false (sym (missed rs (record { place = i; entry = r }) (i + 1) (rw t at found)).0 ∙ busy r d)))
+      let never = (missed rs (Some (record { place = i; entry = r })) (i + 1) (rw t at found)).0 in
+      absurd cc)
       (λ t.
       let on = missed rs best (i + 1) (rw t at found) in
       let not_due : due e r ≡ false = by_cases (due e r) (λ d. absurd (true≢false (rw (d, on.0) at t))) (λ d. d) in
@@ -210,11 +217,11 @@ module _ (e : Record) (kind : e.kind ≡ 15) where
   none_due = refuted (due e blank) (λ t. true≢false (busy_due blank t))
 
   -- Where a tick finds a record, it is the soonest.
-  pub soonest_due_lem : (s : Station) (i : ℕ) → soonest e s ≡ At i → Soonest e s i
+  pub soonest_due_lem : (s : Station) (i : ℕ) → soonest e s ≡ Some i → Soonest e s i
   soonest_due_lem s i found =
-      let end = walked e busy_due s.entries (record { place = 0; entry = blank }) 0 i found in
+      let end = walked e s.entries None 0 i found in
       ⊎_elim
-      (λ here. absurd (true≢false here.2))
+      (λ here. absurd (cc (here.1)))
       (λ on.
       let same : on.0 ≡ i = omega (arith, on.1) in
       let there : get_or s.entries i blank ≡ end.entry = ap (λ (n : ℕ). get_or s.entries n blank) (sym same) ∙ on.3 in
@@ -230,29 +237,29 @@ module _ (e : Record) (kind : e.kind ≡ 15) where
       end.stands
 
   -- Where it finds none, none is due.
-  pub soonest_none : (s : Station) → soonest e s ≡ Nothing → any_of (due e) s.entries ≡ false
-  soonest_none s found = (missed e busy_due s.entries (record { place = 0; entry = blank }) 0 found).1
+  pub soonest_none : (s : Station) → soonest e s ≡ None → list_any (due e) s.entries ≡ false
+  soonest_none s found = (missed e s.entries None 0 found).1
 
   module _ (formed : well_formed e ≡ true) where
     module _ (s : Station) (bearers : List ℕ) (room : ℕ) (late : ltb e.time s.clock ≡ false) where
       -- A tick that finds a record has reply 0, and the record ends.
-      pub tick_one : (i : ℕ) → soonest e s ≡ At i → ((step_of s e bearers room).outcome.reply ≡ 0) × ((step_of s e bearers room).station ≡ put i blank (at e.time s))
+      pub tick_one : (i : ℕ) → soonest e s ≡ Some i → ((step_of s e bearers room).outcome.reply ≡ 0) × ((step_of s e bearers room).station ≡ put i blank (at e.time s))
       tick_one i found =
           let r = get_or s.entries i blank in
           let ended = due_ends e r 0 kind (soonest_due_lem s i found).mine in
-          let does = tick_step s e bearers room formed kind late (At i) found in
+          let does = tick_step s e bearers room formed kind late (Some i) found in
           (rw does ended.0, rw does (ap (λ (x : Entry). put i x (at e.time s)) ended.1))
 
       -- Its place is free then, and no other record changes.
-      pub tick_others : (i : ℕ) → soonest e s ≡ At i → (get_or (step_of s e bearers room).station.entries i blank ≡ blank)
+      pub tick_others : (i : ℕ) → soonest e s ≡ Some i → (get_or (step_of s e bearers room).station.entries i blank ≡ blank)
           × ((j : ℕ) → (j ≡ i → ⊥) → get_or (step_of s e bearers room).station.entries j blank ≡ get_or s.entries j blank)
       tick_others i found =
           rw (tick_one i found).1
           (get_or-set_same s.entries i blank blank (soonest_due_lem s i found).place, λ j other. get_or-set_other s.entries i j blank blank other)
 
       -- One that finds none has reply 9, and only the clock changes.
-      pub tick_none : soonest e s ≡ Nothing → step_of s e bearers room ≡ refused 9 (at e.time s)
-      tick_none = tick_step s e bearers room formed kind late Nothing
+      pub tick_none : soonest e s ≡ None → step_of s e bearers room ≡ refused 9 (at e.time s)
+      tick_none = tick_step s e bearers room formed kind late None
 
       -- So a tick leaves the clock at its time, and one due record fewer, if there was one; if there was none, it has reply 9.
       tick_fewer : ((step_of s e bearers room).station.clock ≡ e.time)
@@ -276,7 +283,7 @@ module _ (e : Record) (kind : e.kind ≡ 15) where
         refuted (ltb e.time s.clock) (λ t. other (ap (λ (a : Answer). a.outcome.reply) (early_step s e bearers room formed kind t)))
 
     -- One with reply 0 finds a record besides.
-    pub tick_handles : (s : Station) (bearers : List ℕ) (room : ℕ) → (step_of s e bearers room).outcome.reply ≡ 0 → (ltb e.time s.clock ≡ false) × (i : ℕ) × (soonest e s ≡ At i)
+    pub tick_handles : (s : Station) (bearers : List ℕ) (room : ℕ) → (step_of s e bearers room).outcome.reply ≡ 0 → (ltb e.time s.clock ≡ false) × (i : ℕ) × (soonest e s ≡ Some i)
     tick_handles s bearers room done =
         let late = in_time s bearers room (λ eight. eqb-false 0 8 refl (sym done ∙ eight)) in
         by_found (soonest e s)

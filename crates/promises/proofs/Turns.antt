@@ -1,4 +1,5 @@
 -- What one step does to the records of a table, each at its place: it makes one in a free place, or each stays, changes or ends.
+use Rattle.std.specs.Prelude.{Some}
 use Prim.Native.Nat.{ℕ, ◌+◌, ◌<◌}
 use mathlib.Core.Path.{◌≡◌, refl}
 use mathlib.Core.Bool.{Bool, true, false, not, ◌&&◌, ◌||◌}
@@ -12,11 +13,12 @@ use Rattle.records.specs.declared.Record.{Record}
 use Rattle.bearers.specs.declared.Admission.{Admission}
 use Rattle.table.specs.declared.Answer.{Answer}
 use Rattle.handover.specs.declared.Decision.{Decision}
+use Rattle.handover.specs.declared.Action.{Action}
 use Rattle.handover.specs.declared.Entry.{Entry}
-use Rattle.places.specs.declared.Found.TheVariants.{At}
 use Rattle.table.specs.declared.Station.{Station}
-use Rattle.handover.specs.Events.{about, resets, action_of, message, last_word, decide, prepared, stored, serving}
-use Rattle.fields.specs.Fields.{all_of_neighbour, sort_of, well_formed}
+use Rattle.handover.specs.Events.{about, resets, action_of, number_of, message, last_word, decide, prepared, stored, serving}
+use Rattle.fields.specs.declared.Sort.TheVariants.{AllOfNeighbour}
+use Rattle.fields.specs.Fields.{sort_of, well_formed}
 use Rattle.handover.specs.Numbers.{is_free, is_outgoing, blank}
 use Rattle.table.specs.Sound.{Sound}
 use Rattle.bearers.specs.declared.Flaw.{Flaw}
@@ -73,24 +75,27 @@ pub record Turned (s : Station) (e : Record) (a : Answer) : Type 0 where
 
 -- a start or a request makes one, or none is made
 pub data Turn (s : Station) (e : Record) : Answer → Type 0 where
-  starts : (k : ℕ) → find is_free s ≡ At k → well_formed e ≡ true → e.kind ≡ 9 → Turn s e (starting e k s)
-  admits : (k : ℕ) → find is_free s ≡ At k → well_formed e ≡ true → e.kind ≡ 1 → (a : Admission) → Turn s e (granted e a k s)
+  starts : (k : ℕ) → find is_free s ≡ Some k → well_formed e ≡ true → e.kind ≡ 9 → Turn s e (starting e k s)
+  admits : (k : ℕ) → find is_free s ≡ Some k → well_formed e ≡ true → e.kind ≡ 1 → (a : Admission) → Turn s e (granted e a k s)
   turns : {a : Answer} → Turned s e a → Turn s e a
 
 -- ---- a decision
 
 -- By one test of the table of actions: an action that leaves no record is not an acknowledge's, and ends an outgoing record in one of
 -- the ways named.
-abbrev final : ℕ → ℕ → ℕ → Bool
-final k st z = leaves z || not (eqb k 2) && (not (leb 1 st && leb st 2) || eqb z 1 && eqb k 3 || eqb z 3 && eqb k 5 && eqb st 2 || is_other_ending z)
+abbrev final : ℕ → ℕ → Action → Bool
+final k st action =
+    let z = number_of action in
+    leaves action || not (eqb k 2) && (not (leb 1 st && leb st 2) || eqb z 1 && eqb k 3 || eqb z 3 && eqb k 5 && eqb st 2 || is_other_ending z)
 
 finals : (k st : ℕ) → final k st (action_of k st) ≡ true
 finals k st = every_action final refl k st (λ j. refl)
 
 module _ (e : Record) (r : Entry) (mine : about e r ≡ true) where
   -- So a record ends as the table says.
-  ended : (z : ℕ) → final e.kind r.state z ≡ true → leaves z ≡ false → Change e z r blank
-  ended z right none =
+  ended : (action : Action) → final e.kind r.state action ≡ true → leaves action ≡ false → Change e (number_of action) r blank
+  ended action right none =
+      let z = number_of action in
       let out = leb 1 r.state && leb r.state 2 in
       let failure = eqb z 1 && eqb e.kind 3 in
       let release = eqb z 3 && eqb e.kind 5 && eqb r.state 2 in
@@ -126,14 +131,14 @@ module _ (s : Station) (e : Record) where
   malformed_turned f = record { last = refl; change = λ j h. stays; says = other refl }
 
   -- A reset ends every record that it is about.
-  reset_turned : sort_of e.kind ≡ all_of_neighbour → Turned s e (reset_of e s)
+  reset_turned : sort_of e.kind ≡ AllOfNeighbour → Turned s e (reset_of e s)
   reset_turned reset =
       record {
         last = refl;
         change = λ j h.
             rw (reset_at e s j)
             (by_cases (resets e (get_or s.entries j blank))
-            (λ t. rw t (ends (λ two. omega (arith, rw two at reset)) (by_other refl)))
+            (λ t. rw t (ends (λ two. cc (rw two at reset)) (by_other refl)))
             (λ t. rw t stays));
         says = other (by_cases (eqb e.kind 7) (λ t. rw t) (λ t. rw t));
       }

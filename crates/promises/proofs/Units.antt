@@ -1,4 +1,5 @@
 -- A step changes the units in use by what it admitted, or what the records that it ended held, and by nothing else.
+use Rattle.std.specs.Prelude.{Option, Some}
 use Prim.Native.Nat.{ℕ, ◌+◌, ◌≤◌, ◌<◌}
 use mathlib.Core.Path.{◌≡◌, refl, sym, ap, ◌∙◌, subst}
 use mathlib.Core.Bool.{Bool, true, false, cond, not, ◌&&◌, ◌||◌, true≢false}
@@ -9,15 +10,17 @@ use lib.Dec.{leb, eqb}
 use lib.ListN.{get_or}
 use Rattle.laws.proofs.Sums.{total_at, total_le, total_throughout}
 use Rattle.laws.specs.Sums.{total}
-use Rattle.laws.proofs.Tests.{by_cases, both_true, neither, on_either, same_at, refuted}
+use Rattle.laws.proofs.Tests.{by_cases, both_true, on_either, same_at, refuted}
 use Rattle.records.specs.declared.Record.{Record}
 use Rattle.table.specs.declared.Answer.{Answer}
+use Rattle.handover.specs.declared.Action.{Action}
+use Rattle.handover.specs.declared.Action.TheVariants.{Untaken, Arrived}
 use Rattle.handover.specs.declared.Entry.{Entry}
-use Rattle.places.specs.declared.Found.{Found}
-use Rattle.places.specs.declared.Found.TheVariants.{At}
 use Rattle.table.specs.declared.Station.{Station}
-use Rattle.handover.specs.Events.{about, action_of, decide}
-use Rattle.fields.specs.Fields.{one_record, all_of_neighbour, soonest_due, new_record, a_request, no_change, sort_of, well_formed}
+use Rattle.handover.specs.Events.{about, action_of, number_of, decide}
+use Rattle.fields.specs.declared.Sort.{Sort}
+use Rattle.fields.specs.declared.Sort.TheVariants.{OneRecord, AllOfNeighbour, SoonestDue, NewRecord, Request, NoChange}
+use Rattle.fields.specs.Fields.{same_sort, sort_of, well_formed}
 use Rattle.handover.specs.Numbers.{is_held, is_incoming, blank}
 use Rattle.fields.proofs.Sorts.{every_of_sort}
 use Rattle.table.specs.Sound.{Fit, Sound}
@@ -35,7 +38,7 @@ use Rattle.promises.proofs.Ticks.{tick_handles, tick_one}
 -- ---- what is given out and taken back
 
 -- the units of the record at a place that was found
-abbrev pub units_at : Found → Station → ℕ
+abbrev pub units_at : Option ℕ → Station → ℕ
 units_at found s = (record_at found s).units
 
 -- the units of a held record of the event's neighbour
@@ -47,14 +50,14 @@ abbrev keeps : ℕ → Bool
 keeps k = eqb k 2 || eqb k 4 || eqb k 11 || eqb k 17
 
 abbrev pub ends_none : ℕ → Bool
-ends_none k = eqb (sort_of k) a_request || eqb (sort_of k) no_change || eqb (sort_of k) new_record || keeps k
+ends_none k = same_sort (sort_of k) Request || same_sort (sort_of k) NoChange || same_sort (sort_of k) NewRecord || keeps k
 
 -- what the records hold that an event of a kind ends
 abbrev pub freed_by : ℕ → Record → Station → ℕ
 freed_by k e s =
     cond (ends_none k) 0
-    (cond (eqb (sort_of k) soonest_due) (units_at (soonest e s) s)
-    (cond (eqb (sort_of k) all_of_neighbour) (total (held_units e) s.entries)
+    (cond (same_sort (sort_of k) SoonestDue) (units_at (soonest e s) s)
+    (cond (same_sort (sort_of k) AllOfNeighbour) (total (held_units e) s.entries)
     (units_at (find (about e) s) s)))
 
 abbrev pub freed : Record → Station → ℕ
@@ -84,24 +87,23 @@ keeps_leaves : (k st : ℕ) → keeps k ≡ true → leaves (action_of k st) ≡
 keeps_leaves k st t = rw t at (every_action (λ i j a. not (keeps i) || leaves a) refl k st (λ j. rw t))
 
 -- An action that does not is an ending that does not.
-leaves_all_lem : (a : ℕ) → leaves a ≡ false → leaves_all a ≡ false
-leaves_all_lem a t =
-    by_cases (eqb a 0)
-    (λ u. absurd (true≢false (rw u at t)))
-    (λ u. rw u (neither (eqb a 0 || eqb a 11 || eqb a 12 || eqb a 13) (eqb a 8) t).1)
+leaves_all_lem : (action : Action) → leaves action ≡ false → leaves_all (number_of action) ≡ false
+leaves_all_lem Untaken t = absurd (true≢false t)
+leaves_all_lem Arrived t = absurd (true≢false t)
+leaves_all_lem action t = refl
 
 -- A kind of another sort is no request.
-no_request : (k sort : ℕ) → sort_of k ≡ sort → (a_request ≡ sort → ⊥) → eqb k 1 ≡ false
+no_request : (k : ℕ) (sort : Sort) → sort_of k ≡ sort → (Request ≡ sort → ⊥) → eqb k 1 ≡ false
 no_request k sort is other = ne_eqb k 1 (λ one. other (rw one at is))
 
 -- ---- resets
 
 -- A reset is none of the kinds that leave a record.
-keeps_none : (k : ℕ) → sort_of k ≡ all_of_neighbour → keeps k ≡ false
-keeps_none k reset = not-true (keeps k) (every_of_sort all_of_neighbour (λ j. not (keeps j)) refl refl k reset)
+keeps_none : (k : ℕ) → sort_of k ≡ AllOfNeighbour → keeps k ≡ false
+keeps_none k reset = not-true (keeps k) (every_of_sort AllOfNeighbour (λ j. not (keeps j)) refl refl k reset)
 
 -- Of these only the held ones have units.
-reset_held : (e : Record) (r : Entry) → sort_of e.kind ≡ all_of_neighbour → Fit r → back_of e r ≡ held_units e r
+reset_held : (e : Record) (r : Entry) → sort_of e.kind ≡ AllOfNeighbour → Fit r → back_of e r ≡ held_units e r
 reset_held e r reset fit =
     rw (reset_ends e r reset)
     (by_cases (is_held r)
@@ -116,7 +118,7 @@ reset_held e r reset fit =
 
 module _ (s : Station) (sound : Sound s) (e : Record) where
   -- What a reset takes back is what the held records of its neighbour have, and at most what is in use.
-  reset_back : sort_of e.kind ≡ all_of_neighbour → (total (back_of e) s.entries ≡ total (held_units e) s.entries) × (total (back_of e) s.entries ≤ s.used)
+  reset_back : sort_of e.kind ≡ AllOfNeighbour → (total (back_of e) s.entries ≡ total (held_units e) s.entries) × (total (back_of e) s.entries ≤ s.used)
   reset_back reset = (
     total_throughout (back_of e) (held_units e) s.entries blank (λ i h. reset_held e (get_or s.entries i blank) reset (sound.fit i (omega (arith, sound.places)))),
     omega (arith, sound.sum, total_le (back_of e) (λ r. r.units) s.entries (back_le e)),
@@ -145,21 +147,21 @@ module _ (s : Station) (sound : Sound s) (e : Record) (bearers : List ℕ) where
   -- Every part of a step accounts for the units: a preparing record has none.
   part_accounts : {room : ℕ} {a : Answer} → Part s e bearers room a → Accounts a e bearers s
   part_accounts (as_refusal f refusal) = record { units = rw (ne_eqb f.reply 0 (λ z. omega (arith, refusal.low))) (omega arith); nothing = λ _. refl }
-  part_accounts (as_response idle) = record { units = rw (no_request e.kind no_change idle (λ same. omega arith)) (omega arith); nothing = λ _. refl }
+  part_accounts (as_response idle) = record { units = rw (no_request e.kind NoChange idle (λ same. cc)) (omega arith); nothing = λ _. refl }
   part_accounts (as_failure n low _ _) = record { units = rw (ne_eqb n 0 (λ z. omega arith)) (omega arith); nothing = λ _. refl }
   part_accounts (as_grant i _ one _ _ _) = record { units = rw one (omega arith); nothing = λ _. refl }
   part_accounts (as_start i _ nine _) = record { units = rw nine (omega arith); nothing = λ _. refl }
   part_accounts (as_reset reset) =
-      record { units = rw (reset, keeps_none e.kind reset, no_request e.kind all_of_neighbour reset (λ same. omega arith)) (omega (arith, reset_back s sound e reset)); nothing = λ f. absurd (true≢false f) }
+      record { units = rw (reset, keeps_none e.kind reset, no_request e.kind AllOfNeighbour reset (λ same. cc)) (omega (arith, reset_back s sound e reset)); nothing = λ f. absurd (true≢false f) }
   part_accounts (as_idle _ _) = record { units = omega arith; nothing = λ _. refl }
   part_accounts (as_tick i _ fifteen found) =
       carried_accounts i 0 e.time (due_place s sound e i found) (rw fifteen)
-      (λ _. ap (λ (k : ℕ). freed_by k e s) fifteen ∙ ap (λ (f : Found). units_at f s) found)
+      (λ _. ap (λ (k : ℕ). freed_by k e s) fifteen ∙ ap (λ (f : Option ℕ). units_at f s) found)
   part_accounts (as_event i _ single found) =
-      carried_accounts i (s.clock + s.settings.overall) s.clock (found_place s sound (about e) i found) (no_request e.kind one_record single (λ same. omega arith))
+      carried_accounts i (s.clock + s.settings.overall) s.clock (found_place s sound (about e) i found) (no_request e.kind OneRecord single (λ same. cc))
       (λ gone.
       let ends : keeps e.kind ≡ false = refuted (keeps e.kind) (λ t. true≢false (sym (keeps_leaves e.kind (get_or s.entries i blank).state t) ∙ gone)) in
-      rw (single, ends) (ap (λ (f : Found). units_at f s) found))
+      rw (single, ends) (ap (λ (f : Option ℕ). units_at f s) found))
 
   -- So a step changes the units in use by what it gives out and takes back, and by nothing else.
   pub accounts : (room : ℕ) → Accounts (step_of s e bearers room) e bearers s
@@ -224,24 +226,24 @@ module _ (s : Station) (sound : Sound s) (e : Record) (bearers : List ℕ) (room
   units_left other = left_account (step_of s e bearers room) e bearers s (accounts s sound e bearers room) (ne_eqb e.kind 1 other)
 
   -- An event about one record that ends it takes back exactly its units.
-  pub units_ended : (n i : ℕ) → e.kind ≡ get_or ending_kinds n 3 → find (about e) s ≡ At i → leaves_all (step_of s e bearers room).outcome.ending ≡ false
+  pub units_ended : (n i : ℕ) → e.kind ≡ get_or ending_kinds n 3 → find (about e) s ≡ Some i → leaves_all (step_of s e bearers room).outcome.ending ≡ false
       → (step_of s e bearers room).station.used + (get_or s.entries i blank).units ≡ s.used
   units_ended n i kind found ending =
       let other : eqb e.kind 1 ≡ false = rw kind (same_at (λ k. eqb k 1) (λ k. false) ending_kinds 3 n refl refl) in
       let frees : freed e s ≡ units_at (find (about e) s) s = ap (λ (k : ℕ). freed_by k e s) kind ∙ same_at (λ k. freed_by k e s) (λ k. units_at (find (about e) s) s) ending_kinds 3 n refl refl in
-      let record_units : freed e s ≡ (get_or s.entries i blank).units = frees ∙ ap (λ (f : Found). units_at f s) found in
+      let record_units : freed e s ≡ (get_or s.entries i blank).units = frees ∙ ap (λ (f : Option ℕ). units_at f s) found in
       subst (λ (u : ℕ). (step_of s e bearers room).station.used + u ≡ s.used) record_units
       (ended_account (step_of s e bearers room) e bearers s (accounts s sound e bearers room) other ending)
 
   -- So does a tick with reply 0.
-  pub units_ticked : (i : ℕ) → e.kind ≡ 15 → well_formed e ≡ true → (step_of s e bearers room).outcome.reply ≡ 0 → soonest e s ≡ At i → (step_of s e bearers room).station.used + (get_or s.entries i blank).units ≡ s.used
+  pub units_ticked : (i : ℕ) → e.kind ≡ 15 → well_formed e ≡ true → (step_of s e bearers room).outcome.reply ≡ 0 → soonest e s ≡ Some i → (step_of s e bearers room).station.used + (get_or s.entries i blank).units ≡ s.used
   units_ticked i kind formed done found =
       let late = (tick_handles e kind formed s bearers room done).0 in
       let back = total_at (λ x. x.units) s.entries i blank (omega (arith, due_place s sound e i found, sound.places)) in
       subst (λ (t : Station). t.used + (get_or s.entries i blank).units ≡ s.used) (sym (tick_one e kind formed s bearers room late i found).1) (omega (arith, sound.sum))
 
   -- A reset takes back exactly the units of the held records of that neighbour.
-  pub units_reset : well_formed e ≡ true → sort_of e.kind ≡ all_of_neighbour → (step_of s e bearers room).station.used + total (held_units e) s.entries ≡ s.used
+  pub units_reset : well_formed e ≡ true → sort_of e.kind ≡ AllOfNeighbour → (step_of s e bearers room).station.used + total (held_units e) s.entries ≡ s.used
   units_reset formed reset =
       subst (λ (a : Answer). a.station.used + total (held_units e) s.entries ≡ s.used) (sym (step_reset s e bearers room formed reset))
       (omega (arith, reset_back s sound e reset))

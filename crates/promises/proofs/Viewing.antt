@@ -1,4 +1,6 @@
 -- What the views of a station say of the places of its table.
+use Rattle.std.specs.List.{list_any}
+use Rattle.std.specs.Prelude.{Option}
 use Prim.Native.Nat.{ℕ, zero, suc, ◌+◌, ◌≤◌, ◌<◌}
 use mathlib.Core.Path.{◌≡◌, refl, sym, ap, ◌∙◌}
 use mathlib.Core.Bool.{Bool, true, false, cond, true≢false, false≢true}
@@ -11,9 +13,8 @@ use Rattle.laws.proofs.Sums.{total_equal}
 use Rattle.laws.specs.Sums.{total}
 use Rattle.laws.proofs.Tests.{by_cases}
 use Rattle.handover.specs.declared.Entry.{Entry}
-use Rattle.places.specs.declared.Found.{Found}
 use Rattle.table.specs.declared.Station.{Station}
-use Rattle.handover.specs.Numbers.{is_free, blank, own, own_is, any_of, next_after, issue_from}
+use Rattle.handover.specs.Numbers.{is_free, blank, own, own_is, next_after, issue_from}
 use Rattle.table.specs.Sound.{Sound, own_times}
 use Rattle.table.specs.Table.{find}
 use Rattle.promises.specs.Views.{count, times, own_ids, Walk, land, pass, record_at, named}
@@ -50,18 +51,18 @@ pub times_own : (i : ℕ) (rs : List Entry) → times i (own_ids rs) ≡ total (
 times_own i rs = count_own (eqb i) rs ∙ total_equal (passes (eqb i)) (own_times i) rs (own_passes i)
 
 -- It does not stand there if no record has it, and does if one has.
-unused_none : (i : ℕ) (rs : List Entry) → any_of (own_is i) rs ≡ false → times i (own_ids rs) ≡ 0
+unused_none : (i : ℕ) (rs : List Entry) → list_any (own_is i) rs ≡ false → times i (own_ids rs) ≡ 0
 unused_none i rs t = times_own i rs ∙ total_none_of (own_times i) (own_is i) rs (λ r u. rw u) t
 
-used_some : (i : ℕ) (rs : List Entry) → any_of (own_is i) rs ≡ true → 1 ≤ times i (own_ids rs)
+used_some : (i : ℕ) (rs : List Entry) → list_any (own_is i) rs ≡ true → 1 ≤ times i (own_ids rs)
 used_some i rs t = omega (arith, times_own i rs, total_any (own_is i) rs t)
 
 -- The search that ends at an own ID in no use is the walk to it.
-pub walk_to : (n c : ℕ) (rs : List Entry) → any_of (own_is (issue_from n (next_after c) rs)) rs ≡ false → Walk (own_ids rs) c (issue_from n (next_after c) rs)
+pub walk_to : (n c : ℕ) (rs : List Entry) → list_any (own_is (issue_from n (next_after c) rs)) rs ≡ false → Walk (own_ids rs) c (issue_from n (next_after c) rs)
 unfolding issue_from
 walk_to zero c rs unused = land refl (unused_none (next_after c) rs unused)
 walk_to (suc n) c rs unused =
-    by_cases (any_of (own_is (next_after c)) rs)
+    by_cases (list_any (own_is (next_after c)) rs)
     (λ t. rw t (pass (used_some (next_after c) rs t) (walk_to n (next_after c) rs (rw t at unused))))
     (λ t. rw t (land refl (unused_none (next_after c) rs t)))
 
@@ -74,8 +75,8 @@ module _ (s : Station) (sound : Sound s) (i : ℕ) where
   unfolding named
   named_at =
       by_found (find (own_is i) s)
-      (λ none. inr (λ j h. none_at (own_is i) s.entries j (omega (arith, sound.places)) (found_none (own_is i) s.entries 0 none), ap (λ (f : Found). record_at f s) none))
-      (λ k found. inl (k, found_place s sound (own_is i) k found, (found_here (own_is i) s k found).1, ap (λ (f : Found). record_at f s) found))
+      (λ none. inr (λ j h. none_at (own_is i) s.entries j (omega (arith, sound.places)) (found_none (own_is i) s.entries none), ap (λ (f : Option ℕ). record_at f s) none))
+      (λ k found. inl (k, found_place s sound (own_is i) k found, (found_here (own_is i) s k found).1, ap (λ (f : Option ℕ). record_at f s) found))
 
   -- No two places have it.
   pub own_sole : (j k : ℕ) → j < 64 → k < 64 → own_is i (get_or s.entries j blank) ≡ true → own_is i (get_or s.entries k blank) ≡ true → j ≡ k

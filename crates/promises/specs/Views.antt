@@ -1,11 +1,9 @@
 -- What is seen of one station, and of one step: all that the theorem of two stations looks at.
 use Rattle.std.specs.Prelude.{ℕ, ◌+◌, ◌≤◌, ◌<◌, ◌≡◌, Bool, true, false, cond, ◌&&◌, ◌||◌, List, [], ◌∷◌, ◌⊎◌, leb, eqb, length, get_or}
-use Rattle.std.proofs.Math.Option.{Option, none, some}
+use Rattle.std.specs.Prelude.{Option, Some, None}
 use Rattle.records.specs.declared.Record.{Record}
 use Rattle.table.specs.declared.Answer.{Answer}
 use Rattle.handover.specs.declared.Entry.{Entry}
-use Rattle.places.specs.declared.Found.{Found}
-use Rattle.places.specs.declared.Found.TheVariants.{At, Nothing}
 use Rattle.table.specs.declared.Station.{Station}
 use Rattle.handover.specs.Events.{message}
 use Rattle.handover.specs.Numbers.{is_free, blank, own, own_is, next_after}
@@ -71,12 +69,12 @@ abbrev pub held_of : ℕ → Entry → Incoming
 held_of p r = cond (eqb r.state 3 && eqb r.neighbour p) (Held r.old.0 r.admitted) NotHeld
 
 abbrev pub due_of : ℕ → Entry → Option ℕ
-due_of p r = cond (leb 1 r.state && leb r.state 3 && eqb r.neighbour p) (some r.deadline) none
+due_of p r = cond (leb 1 r.state && leb r.state 3 && eqb r.neighbour p) (Some r.deadline) None
 
 -- the record that has an own ID, a free place if none has
-abbrev pub record_at : Found → Station → Entry
-record_at (At i) s = get_or s.entries i blank
-record_at Nothing s = blank
+abbrev pub record_at : Option ℕ → Station → Entry
+record_at (Some i) s = get_or s.entries i blank
+record_at None s = blank
 
 unfoldable pub named : ℕ → Station → Entry
 named i s = record_at (find (own_is i) s) s
@@ -96,7 +94,7 @@ pub record Shown (s : Station) (r : Entry) : Type 0 where
   pub preparing : r.state ≡ 1 → out s r.neighbour r.old.0 ≡ Preparing
   pub prepared : r.state ≡ 2 → out s r.neighbour r.old.0 ≡ Prepared r.new.0 r.admitted
   pub reserved : r.state ≡ 3 → held s r.neighbour r.new.0 ≡ Held r.old.0 r.admitted
-  pub timed : 1 ≤ r.state → r.state ≤ 3 → due s r.neighbour (own r) ≡ some r.deadline
+  pub timed : 1 ≤ r.state → r.state ≤ 3 → due s r.neighbour (own r) ≡ Some r.deadline
 
 -- ---- one step: the station before it, the event and the answer
 
@@ -113,7 +111,7 @@ to kind p a = eqb (sent a).kind kind && eqb (sent a).neighbour p
 
 -- the own ID that it issues: the Old ID of a request, the New ID of an acknowledge
 abbrev pub issued : Answer → Option ℕ
-issued a = cond (eqb (sent a).kind 1) (some (sent a).old.0) (cond (eqb (sent a).kind 2) (some (sent a).new.0) none)
+issued a = cond (eqb (sent a).kind 1) (Some (sent a).old.0) (cond (eqb (sent a).kind 2) (Some (sent a).new.0) None)
 
 -- It issues an own ID: a place was free, it is the first that was not in use, and it alone is new.
 pub record Issues (i : ℕ) (s : Station) (a : Answer) : Type 0 where
@@ -223,19 +221,19 @@ pub record Laws (s : Station) : Type 0 where
   -- an outgoing or held record has one of them
   pub view : (p i : ℕ) → (some_out (out s p i) ≡ true) ⊎ (some_held (held s p i) ≡ true) → 1 ≤ times i (ids s)
   -- and a deadline
-  pub timed : (p i : ℕ) → (some_out (out s p i) ≡ true) ⊎ (some_held (held s p i) ≡ true) → (d : ℕ) × (due s p i ≡ some d)
+  pub timed : (p i : ℕ) → (some_out (out s p i) ≡ true) ⊎ (some_held (held s p i) ≡ true) → (d : ℕ) × (due s p i ≡ Some d)
 
 -- What holds of every step from such a station.
 pub record StepLaws (s : Station) (e : Record) (a : Answer) : Type 0 where
   -- a request or an acknowledge that is sent has an own ID that is new; else none is
-  pub issue : (i : ℕ) → issued a ≡ some i → Issues i s a
-  pub no_issue : issued a ≡ none → IssuesNone s a
+  pub issue : (i : ℕ) → issued a ≡ Some i → Issues i s a
+  pub no_issue : issued a ≡ None → IssuesNone s a
   -- what becomes of the outgoing records towards each neighbour, and of those held for it
   pub source : (p : ℕ) → Source p s e a
   pub target : (p : ℕ) → Target p s e a
   -- a prepared record is moved by the release that has its neighbour and both its IDs
   pub takes : (p i n admitted : ℕ) → e ≡ message 5 p i n 0 0 0 → out s p i ≡ Prepared n admitted → (out a.station p i ≡ NotOut) × (ending a ≡ 3)
   -- a deadline was there before, or comes with a request or an acknowledge sent to the neighbour, or with an acknowledge from it
-  pub due_before : (p i d : ℕ) → due a.station p i ≡ some d → (due s p i ≡ some d) ⊎ (to 1 p a ≡ true) ⊎ (to 2 p a ≡ true) ⊎ ((e.kind ≡ 2) × (e.neighbour ≡ p))
+  pub due_before : (p i d : ℕ) → due a.station p i ≡ Some d → (due s p i ≡ Some d) ⊎ (to 1 p a ≡ true) ⊎ (to 2 p a ≡ true) ⊎ ((e.kind ≡ 2) × (e.neighbour ≡ p))
   -- a tick with reply 9 is before every deadline
-  pub nine : (p i d : ℕ) → e.kind ≡ 15 → a.outcome.reply ≡ 9 → due s p i ≡ some d → e.time < d
+  pub nine : (p i d : ℕ) → e.kind ≡ 15 → a.outcome.reply ≡ 9 → due s p i ≡ Some d → e.time < d

@@ -1,26 +1,26 @@
 -- The messages that are worked out by hand, read, and what is refused of them.
 use Prim.Native.Nat.{ℕ}
 use mathlib.Core.Path.{◌≡◌, refl}
-use mathlib.Core.Bool.{true, ◌&&◌}
+use mathlib.Core.Bool.{Bool, true, false, ◌&&◌}
+use Rattle.std.proofs.Common.{Some, None, Ok, Err}
 use mathlib.Core.List.{List, [], ◌∷◌, ◌++◌}
 use lib.Dec.{eqb}
 use lib.ListN.{take, drop, get_or, set}
 use Rattle.laws.proofs.Tests.{every}
 use Rattle.wire.specs.Causes.{reason_of}
 use Rattle.wire.proofs.Examples.{release, cancel, short, told}
-use Rattle.reading.specs.Reading.{passed, judged_of, read_of, value_of}
-use Rattle.reading.specs.declared.Reading.TheVariants.{Message, Refused}
+use Rattle.reading.specs.Reading.{passed, Judgement, judged_of, read_of, value_of}
 
-pub read : (read_of release 3 ≡ Message (told 5 2748 0)) × (read_of cancel 3 ≡ Message (told 6 2748 2)) × (read_of short 3 ≡ Message (told 6 65535 1))
+pub read : (read_of release 3 ≡ Ok (told 5 2748 0)) × (read_of cancel 3 ≡ Ok (told 6 2748 2)) × (read_of short 3 ≡ Ok (told 6 65535 1))
 unfolding judged_of passed reason_of
 read = (refl, refl, refl)
 
 -- A neighbour out of range comes before anything in the message.
-pub far : (read_of release 32 ≡ Refused (record { reply = 11; at = 1 })) × (read_of [] 32 ≡ Refused (record { reply = 11; at = 1 }))
+pub far : (read_of release 32 ≡ Err (record { reply = 11; at = 1 })) × (read_of [] 32 ≡ Err (record { reply = 11; at = 1 }))
 far = (refl, refl)
 
 -- the values of their IEs: Old ID, New ID and Cause, and none where there is none
-pub values : (value_of release 10 ≡ 0 ∷ 7 ∷ []) × (value_of cancel 9 ≡ 10 ∷ 188 ∷ []) × (value_of short 5 ≡ 104 ∷ []) × (value_of short 9 ≡ []) × (value_of (take 18 release) 10 ≡ [])
+pub values : (value_of release 10 ≡ Some (0 ∷ 7 ∷ [])) × (value_of cancel 9 ≡ Some (10 ∷ 188 ∷ [])) × (value_of short 5 ≡ Some (104 ∷ [])) × (value_of short 9 ≡ None) × (value_of (take 18 release) 10 ≡ None)
 unfolding judged_of passed reason_of
 values = (refl, refl, refl, refl, refl)
 
@@ -78,6 +78,10 @@ refusals =
     ∷ (20 ∷ 17 ∷ set short 17 106)  -- misc 5
     ∷ []
 
-pub refused : every (λ i case. eqb (judged_of (drop 2 case)).reply (get_or case 0 0) && eqb (judged_of (drop 2 case)).at (get_or case 1 0)) refusals ≡ true
+abbrev is_refused : Judgement → ℕ → ℕ → Bool
+is_refused (Ok _) reply at = false
+is_refused (Err e) reply at = eqb e.reply reply && eqb e.at at
+
+pub refused : every (λ i case. is_refused (judged_of (drop 2 case)) (get_or case 0 0) (get_or case 1 0)) refusals ≡ true
 unfolding judged_of passed reason_of
 refused = refl

@@ -1,19 +1,23 @@
 -- What a message that is not refused has.
 use Prim.Native.Nat.{ℕ, zero, suc, ◌+◌, ◌≤◌, ◌<◌}
 use mathlib.Core.Path.{◌≡◌, refl, sym, ◌∙◌}
-use mathlib.Core.Bool.{Bool, true, false, cond, not, ◌&&◌, ◌||◌, false≢true}
+use mathlib.Core.Bool.{Bool, true, false, cond, ◌&&◌, ◌||◌, and-false, false≢true}
 use mathlib.Core.List.{List, [], ◌∷◌}
 use native.Mathlib.Omega.{arith}
-use borrow.Author.Tests.{lt-leb, ltb-true, ltb-false, lt-ltb, le-ltb, eqb-true, eqb-false, not-true}
+use Rattle.std.proofs.Common.{ap, Ok, Err}
+use borrow.Author.Tests.{lt-leb, ltb-true, ltb-false, lt-ltb, le-ltb, eqb-true}
 use lib.Dec.{leb, ltb, eqb}
 use lib.ListN.{length, get_or}
 use store.Seg.{eqb_same}
-use Rattle.laws.proofs.Tests.{by_cases, both_true, neither, every, every_at}
-use Rattle.wire.specs.Parts.{a_choice, none, ies_of, row_of, list_end, is_complete}
-use Rattle.wire.specs.Rules.{form_of, allows, reply_by}
-use Rattle.reading.specs.Reading.{shape_of, count_of, layout_of, rule_in, passed, judged_of}
+use Rattle.laws.proofs.Tests.{by_cases, both_true, neither, clash, every, every_at}
+use Rattle.wire.specs.Parts.{none, ies_of, row_of, list_end}
+use Rattle.wire.specs.Rules.{allows, refusal_by}
+use Rattle.reading.specs.Reading.{shape_of, count_of, layout_of, rule_in, passed, Judgement, judged_of}
 use Rattle.reading.specs.declared.Layout.{Layout}
-use Rattle.wire.proofs.Tables.{of_three}
+use Rattle.wire.specs.declared.Refusal.{Refusal}
+use Rattle.wire.specs.declared.Shape.{Shape}
+use Rattle.wire.specs.declared.Shape.TheVariants.{Release, Cancel, ShortCancel}
+use Rattle.wire.specs.declared.rules.Rule.{Rule}
 use Rattle.reading.proofs.Walk.{moved}
 
 -- ---- how far it is passed
@@ -56,55 +60,57 @@ passed_last l m h = moved l (passed l 0 m) (0 + passed l 0 m) (get_or m (passed 
 
 -- ---- what is said
 
--- A test and one that fails fail.
-pub and-false : (b : Bool) → (b && false) ≡ false
-and-false true = refl
-and-false false = refl
-
 -- Nothing may stand where nothing may.
 pub none_allows : (reply octet : ℕ) → allows (none reply) octet ≡ false
 none_allows reply zero = refl
 none_allows reply (suc octet) = rw (lt-leb (suc octet) 0 (omega arith), and-false (leb 1 (suc octet)))
 
--- There are three messages.
-pub some_shape : (m : List ℕ) → shape_of m ≤ 2
-some_shape m =
-    by_cases (eqb (get_or m 1 0) 5)
-    (λ t. rw t (omega arith))
-    (λ t. by_cases (eqb (get_or m 14 0) 9) (λ u. rw (t, u) (omega arith)) (λ u. rw (t, u) (omega arith)))
-
 -- whether a test holds of each rule of a message, and where nothing may stand
-abbrev in_row : (List ℕ → Bool) → ℕ → Bool
+abbrev in_row : (Rule → Bool) → Shape → Bool
 in_row test shape = every (λ i. test) (row_of shape)
 
-abbrev pub of_rules : (List ℕ → Bool) → Bool
-of_rules test = test (none 17) && test (none 19) && test (none 21) && in_row test 0 && in_row test 1 && in_row test 2
+abbrev pub of_rules : (Rule → Bool) → Bool
+of_rules test =
+    test (none 17) && test (none 19) && test (none 21) && in_row test Release && in_row test Cancel && in_row test ShortCancel
 
 -- Then it holds of what may stand at any place.
-pub every_rule : (test : List ℕ → Bool) → of_rules test ≡ true → (m : List ℕ) (place : ℕ) → test (rule_in (layout_of m) place) ≡ true
+pub every_rule : (test : Rule → Bool) → of_rules test ≡ true → (m : List ℕ) (place : ℕ) → test (rule_in (layout_of m) place) ≡ true
 every_rule test all m place =
     let l = layout_of m in
-    let e = both_true (test (none 17) && test (none 19) && test (none 21) && in_row test 0 && in_row test 1) (in_row test 2) all in
-    let d = both_true (test (none 17) && test (none 19) && test (none 21) && in_row test 0) (in_row test 1) e.0 in
-    let c = both_true (test (none 17) && test (none 19) && test (none 21)) (in_row test 0) d.0 in
+    let e = both_true (test (none 17) && test (none 19) && test (none 21) && in_row test Release && in_row test Cancel) (in_row test ShortCancel) all in
+    let d = both_true (test (none 17) && test (none 19) && test (none 21) && in_row test Release) (in_row test Cancel) e.0 in
+    let c = both_true (test (none 17) && test (none 19) && test (none 21)) (in_row test Release) d.0 in
     let b = both_true (test (none 17) && test (none 19)) (test (none 21)) c.0 in
     let a = both_true (test (none 17)) (test (none 19)) b.0 in
-    let at : (s : ℕ) → in_row test s ≡ true → test (get_or (row_of s) place (none 19)) ≡ true = λ s t. every_at (λ i. test) (row_of s) (none 19) place t (λ j. a.1) in
+    let row : (s : Shape) → in_row test s ≡ true = λ s. elim s as (λ s. in_row test s ≡ true) [ Release ↦ c.1 | Cancel ↦ d.1 | ShortCancel ↦ e.1 ] in
     by_cases (eqb place l.value && ltb place l.list)
     (λ t. rw t a.0)
     (λ t. by_cases (ltb place l.list)
-    (λ u. rw (t, u) (of_three (λ s. test (get_or (row_of s) place (none 19)) ≡ true) (at 0 c.1) (at 1 d.1) (at 2 e.1) l.shape (some_shape m)))
-    (λ u. rw (t, u) (by_cases (is_complete (shape_of m) (count_of m)) (λ v. rw v b.1) (λ v. rw v a.1))))
+    (λ u. rw (t, u) (every_at (λ i. test) (row_of l.shape) (none 19) place (row l.shape) (λ j. a.1)))
+    (λ u. rw (t, u) (by_cases l.complete (λ v. rw v b.1) (λ v. rw v a.1))))
 
--- Each rule refuses with a number.
-abbrev pub saying : List ℕ → Bool
-saying r = not (eqb (get_or r 2 0) 0)
+-- ---- which refusal it is
 
-pub reply_some : (r : List ℕ) (octet : ℕ) → saying r ≡ true → reply_by r octet ≡ 0 → ⊥
-reply_some r octet says e =
-    by_cases (eqb (form_of r) a_choice && leb 32 octet)
-    (λ t. omega (arith, rw t at e))
-    (λ t. eqb-false (get_or r 2 0) 0 (not-true (eqb (get_or r 2 0) 0) says) (rw t at e))
+pub same_error : (a e : Refusal) → ◌≡◌ {A = Judgement} (Err a) (Err e) → a ≡ e
+same_error a e is = cc
+
+-- at the end
+end_error : (short all : Bool) (size : ℕ) (e : Refusal) → ◌≡◌ {A = Judgement} (cond short (Err (record { reply = 17; at = size })) (cond all (Ok tt) (Err (record { reply = 19; at = size })))) (Err e) → e.at ≡ size
+end_error true all size e is = ap (λ (x : Refusal). x.at) (sym (same_error _ e is))
+end_error false true size e is = clash (cc is)
+end_error false false size e is = ap (λ (x : Refusal). x.at) (sym (same_error _ e is))
+
+-- A message is refused at an octet that may not stand there, or where it ends.
+pub refused_where : {G : Type 0} (m : List ℕ) (e : Refusal) → judged_of m ≡ Err e
+    → (passed (layout_of m) 0 m < length m → refusal_by (rule_in (layout_of m) (passed (layout_of m) 0 m)) (get_or m (passed (layout_of m) 0 m) 0) (passed (layout_of m) 0 m) ≡ e → G)
+    → (length m ≤ passed (layout_of m) 0 m → e.at ≡ length m → G) → G
+unfolding judged_of
+refused_where m e is octet ended =
+    let l = layout_of m in
+    let p = passed l 0 m in
+    by_cases (ltb p (length m))
+    (λ t. octet (ltb-true p (length m) t) (same_error _ e (rw t at is)))
+    (λ t. ended (ltb-false p (length m) t) (end_error (ltb (length m) l.list || ltb (length m) l.value) l.complete (length m) e (rw t at is)))
 
 -- ---- a message in order
 
@@ -122,7 +128,7 @@ beyond_allows : (m : List ℕ) (place octet : ℕ) → (layout_of m).list ≤ pl
 beyond_allows m place octet h =
     let l = layout_of m in
     let out : ltb place l.list ≡ false = le-ltb place l.list h in
-    rw (out, and-false (eqb place l.value)) (none_allows l.beyond octet)
+    rw (out, and-false (eqb place l.value)) (none_allows (cond l.complete 21 19) octet)
 
 value_allows : (m : List ℕ) (octet : ℕ) → (layout_of m).value < (layout_of m).list → allows (rule_in (layout_of m) (layout_of m).value) octet ≡ false
 value_allows m octet h =
@@ -130,16 +136,10 @@ value_allows m octet h =
     rw (eqb_same l.value, lt-ltb l.value l.list h) (none_allows 17 octet)
 
 -- what an end without a refusal says
-no_more : (short all : Bool) → ◌≡◌ {A = ℕ} (cond short 17 (cond all 0 19)) 0 → (short ≡ false) × (all ≡ true)
-no_more true all e = absurd (omega arith)
-no_more false true e = (refl, refl)
-no_more false false e = absurd (omega arith)
-
-is_complete_lem : (m : List ℕ) → eqb (layout_of m).beyond 21 ≡ true → count_of m ≡ length (ies_of (shape_of m))
-is_complete_lem m t =
-    by_cases (is_complete (shape_of m) (count_of m))
-    (λ u. eqb-true (count_of m) (length (ies_of (shape_of m))) u)
-    (λ u. absurd (false≢true (rw u at t)))
+no_more : (short all : Bool) (size : ℕ) → ◌≡◌ {A = Judgement} (cond short (Err (record { reply = 17; at = size })) (cond all (Ok tt) (Err (record { reply = 19; at = size })))) (Ok tt) → (short ≡ false) × (all ≡ true)
+no_more true all size e = clash (cc e)
+no_more false true size e = (refl, refl)
+no_more false false size e = clash (cc e)
 
 module _ (m : List ℕ) (each : (k : ℕ) → k < length m → allows (rule_in (layout_of m) k) (get_or m k 0) ≡ true) where
   -- it does not go on after its list, nor after its value
@@ -155,24 +155,26 @@ module _ (m : List ℕ) (each : (k : ℕ) → k < length m → allows (rule_in (
       (λ t. absurd (false≢true (sym (value_allows m (get_or m (layout_of m).value 0) (omega (arith, list_last, ltb-true (layout_of m).value (length m) t))) ∙ each (layout_of m).value (ltb-true (layout_of m).value (length m) t))))
       (λ t. ltb-false (layout_of m).value (length m) t)
 
-  ends_well : (layout_of m).list ≤ length m → (layout_of m).value ≤ length m → eqb (layout_of m).beyond 21 ≡ true → InOrder m
+  ends_well : (layout_of m).list ≤ length m → (layout_of m).value ≤ length m → (layout_of m).complete ≡ true → InOrder m
   ends_well whole long all =
       record {
-        complete = is_complete_lem m all;
+        complete = eqb-true (count_of m) (length (ies_of (shape_of m))) all;
         size = omega (arith, list_last);
         value = omega (arith, value_last whole);
         each = each;
       }
 
 -- A message that is not refused is in order.
-pub in_order : (m : List ℕ) → (judged_of m).reply ≡ 0 → InOrder m
+pub in_order : (m : List ℕ) → judged_of m ≡ Ok tt → InOrder m
 unfolding judged_of
 in_order m e =
-    by_cases (ltb (passed (layout_of m) 0 m) (length m))
-    (λ t. absurd (reply_some (rule_in (layout_of m) (passed (layout_of m) 0 m)) (get_or m (passed (layout_of m) 0 m) 0) (every_rule saying refl m (passed (layout_of m) 0 m)) (rw t at e)))
+    let l = layout_of m in
+    let p = passed l 0 m in
+    by_cases (ltb p (length m))
+    (λ t. clash (cc (rw t at e)))
     (λ t.
-    let ends = neither (ltb (length m) (layout_of m).list) (ltb (length m) (layout_of m).value) (no_more (ltb (length m) (layout_of m).list || ltb (length m) (layout_of m).value) (eqb (layout_of m).beyond 21) (rw t at e)).0 in
-    let all = (no_more (ltb (length m) (layout_of m).list || ltb (length m) (layout_of m).value) (eqb (layout_of m).beyond 21) (rw t at e)).1 in
+    let last = no_more (ltb (length m) l.list || ltb (length m) l.value) l.complete (length m) (rw t at e) in
+    let ends = neither (ltb (length m) l.list) (ltb (length m) l.value) last.0 in
     ends_well m
-    (λ k h. passed_each (layout_of m) m k (omega (arith, ltb-false (passed (layout_of m) 0 m) (length m) t)))
-    (ltb-false (length m) (layout_of m).list ends.0) (ltb-false (length m) (layout_of m).value ends.1) all)
+    (λ k h. passed_each l m k (omega (arith, ltb-false p (length m) t)))
+    (ltb-false (length m) l.list ends.0) (ltb-false (length m) l.value ends.1) last.1)

@@ -1,13 +1,15 @@
 -- How far a message is what may stand there.
 use Prim.Native.Nat.{ℕ, zero, suc, ◌+◌, ◌≤◌, ◌<◌}
-use mathlib.Core.Path.{◌≡◌, refl, ap, ◌∙◌}
+use mathlib.Core.Path.{◌≡◌, refl, sym, ap, ◌∙◌}
 use mathlib.Core.Bool.{true, false}
 use mathlib.Core.List.{List, [], ◌∷◌}
 use native.Mathlib.Omega.{arith}
 use borrow.Author.Tests.{lt-ltb, le-ltb}
 use lib.ListN.{length, get_or}
 use Rattle.wire.specs.Rules.{allows, refusal_by}
-use Rattle.reading.specs.Reading.{rule_in, stands_in, passed, end_in, judged_in}
+use Rattle.std.proofs.Common.{Err}
+use Rattle.reading.specs.Reading.{layout_of, rule_in, passed, end_in, judged_in, judged_of}
+use Rattle.wire.specs.declared.rules.Rule.{Rule}
 use Rattle.reading.specs.declared.Layout.{Layout}
 
 -- What may stand at a place may stand at the same place.
@@ -28,18 +30,31 @@ passed_to l start (o ∷ m) (suc i) h all stop =
     (λ k below. moved l (suc start + k) (start + suc k) (get_or m k 0) (omega arith) ∙ all (suc k) (omega arith))
     (λ inside. moved l (suc start + i) (start + suc i) (get_or m i 0) (omega arith) ∙ stop (omega arith))))
 
--- So the first place where no octet stands that may is how many are passed.
 pub passed_stop : (l : Layout) (m : List ℕ) (i : ℕ) → i ≤ length m → ((k : ℕ) → k < i → allows (rule_in l k) (get_or m k 0) ≡ true)
-    → stands_in l m i ≡ false → passed l 0 m ≡ i
+    → (i < length m → allows (rule_in l i) (get_or m i 0) ≡ false) → passed l 0 m ≡ i
 passed_stop l m i h all stop =
     passed_to l 0 m i h
     (λ k below. moved l (0 + k) k (get_or m k 0) (omega arith) ∙ all k below)
-    (λ inside. moved l (0 + i) i (get_or m i 0) (omega arith) ∙ rw (lt-ltb i (length m) inside) at stop)
+    (λ inside. moved l (0 + i) i (get_or m i 0) (omega arith) ∙ stop inside)
 
 -- A message is refused at an octet that is not passed, or judged at its end.
 module _ (l : Layout) (m : List ℕ) (i : ℕ) (far : i ≡ passed l 0 m) where
-  pub judged_octet : i < length m → (r : List ℕ) → r ≡ rule_in l i → refusal_by r (get_or m i 0) i ≡ judged_in l m
-  judged_octet inside r is = rw (← far, lt-ltb i (length m) inside, is)
+  pub judged_octet : i < length m → Err (refusal_by (rule_in l i) (get_or m i 0) i) ≡ judged_in l m
+  judged_octet inside = rw (← far, lt-ltb i (length m) inside)
 
   pub judged_end : length m ≤ i → end_in l (length m) ≡ judged_in l m
   judged_end outside = rw (← far, le-ltb i (length m) outside)
+
+-- As a message is judged: by its layout, after so many octets that may all stand where they do.
+module _ (m : List ℕ) (l : Layout) (is : l ≡ layout_of m) (i : ℕ) (all : (k : ℕ) → k < i → allows (rule_in l k) (get_or m k 0) ≡ true) where
+  pub refused_at : i < length m → (r : Rule) → r ≡ rule_in l i → allows r (get_or m i 0) ≡ false → Err (refusal_by r (get_or m i 0) i) ≡ judged_of m
+  unfolding judged_of
+  refused_at inside r rule stop =
+      let far = passed_stop l m i (omega arith) all (λ _. rw rule at stop) in
+      ap (λ (x : Rule). Err (refusal_by x (get_or m i 0) i)) rule ∙ judged_octet l m i (sym far) inside ∙ ap (λ (x : Layout). judged_in x m) is
+
+  pub ended_at : length m ≡ i → end_in l (length m) ≡ judged_of m
+  unfolding judged_of
+  ended_at whole =
+      let far = passed_stop l m i (omega arith) all (λ inside. absurd (omega arith)) in
+      judged_end l m i (sym far) (omega arith) ∙ ap (λ (x : Layout). judged_in x m) is

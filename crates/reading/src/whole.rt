@@ -1,17 +1,17 @@
 // Whether a message is in order, without a look at the rules: most are, and then nothing has to be found out about them.
-ghost use Rattle.std.specs.Prelude.{◌≡◌, ◌+◌, ◌≤◌, length};
-ghost use Rattle.reading.specs.Whole.{begins as begins_of, heads as heads_of, is_release, is_cancel, is_short, is_whole};
+ghost use Rattle.std.specs.Prelude.{◌≡◌, ◌+◌, ◌≤◌, ◌<◌, length};
+ghost use Rattle.reading.specs.Whole.{begins, heads, has_id, has_cause, is_whole};
 
 use wire::causes::reason_of;
 
-// Whether a message of so many octets begins as it must: by its procedure code, the length of its value and the count of its IEs.
+// Whether a message begins as it must: by its procedure code, the length of its value and the count of its IEs.
 fn begins(message: &[u8], code: u8, size: u8, count: u8) -> bool
     requires { 18 ≤ length message.now }
-    ensures { result ≡ begins_of message.now code size count }
+    ensures { result ≡ begins message.now code size count }
 {
     (message[0] == 0)
         & (message[1] == code)
-        & (message[2] == 64)
+        & (message[2] == 0x40)
         & (message[3] == size)
         & (message[4] == 0)
         & (message[5] == 0)
@@ -20,8 +20,8 @@ fn begins(message: &[u8], code: u8, size: u8, count: u8) -> bool
 
 // Whether an IE begins at a place, by its id, its criticality and the length of its value.
 fn heads(message: &[u8], at: usize, id: u8, criticality: u8, size: u8) -> bool
-    requires { at + 4 ≤ length message.now }
-    ensures { result ≡ heads_of message.now at id criticality size }
+    requires { at + 4 < length message.now }
+    ensures { result ≡ heads message.now at id criticality size }
 {
     (message[at] == 0)
         & (message[at + 1] == id)
@@ -29,56 +29,35 @@ fn heads(message: &[u8], at: usize, id: u8, criticality: u8, size: u8) -> bool
         & (message[at + 3] == size)
 }
 
-// Whether it is a release.
-fn is_release(message: &[u8]) -> bool
-    requires { length message.now ≡ 19 }
-    ensures { result ≡ is_release message.now }
+// Whether an ID stands at a place.
+fn has_id(message: &[u8], at: usize, id: u8, criticality: u8) -> bool
+    requires { at + 4 < length message.now }
+    ensures { result ≡ has_id message.now at id criticality }
 {
-    begins(message, 5, 15, 2)
-        & heads(message, 7, 10, 0, 2)
-        & (message[11] <= 15)
-        & heads(message, 13, 9, 0, 2)
-        & (message[17] <= 15)
+    heads(message, at, id, criticality, 2) & (message[at + 4] <= 15)
 }
 
-// Whether it is a cancel.
-fn is_cancel(message: &[u8]) -> bool
-    requires { length message.now ≡ 24 }
-    ensures { result ≡ is_cancel message.now }
+// Whether a Cause stands at a place.
+fn has_cause(message: &[u8], at: usize) -> bool
+    requires { at + 4 < length message.now }
+    ensures { result ≡ has_cause message.now at }
 {
-    begins(message, 1, 20, 3)
-        & heads(message, 7, 10, 0, 2)
-        & (message[11] <= 15)
-        & heads(message, 13, 9, 64, 2)
-        & (message[17] <= 15)
-        & heads(message, 19, 5, 64, 1)
-        & !(reason_of(message[23]) == 0)
+    heads(message, at, 5, 0x40, 1) & reason_of(message[at + 4]).is_some()
 }
 
-// Whether it is a cancel without a New ID.
-fn is_short(message: &[u8]) -> bool
-    requires { length message.now ≡ 18 }
-    ensures { result ≡ is_short message.now }
-{
-    begins(message, 1, 14, 2)
-        & heads(message, 7, 10, 0, 2)
-        & (message[11] <= 15)
-        & heads(message, 13, 5, 64, 1)
-        & !(reason_of(message[17]) == 0)
-}
-
-// Whether it is one of the three.
+// Whether it is a release, a cancel, or a cancel without a New ID.
 pub fn is_whole(message: &[u8]) -> bool
     ensures { result ≡ is_whole message.now }
 {
-    if message.len() == 19 {
-        return is_release(message);
+    match message.len() {
+        19 => begins(message, 5, 15, 2) & has_id(message, 7, 10, 0) & has_id(message, 13, 9, 0),
+        24 => {
+            begins(message, 1, 20, 3)
+                & has_id(message, 7, 10, 0)
+                & has_id(message, 13, 9, 0x40)
+                & has_cause(message, 19)
+        }
+        18 => begins(message, 1, 14, 2) & has_id(message, 7, 10, 0) & has_cause(message, 13),
+        _ => false,
     }
-    if message.len() == 24 {
-        return is_cancel(message);
-    }
-    if message.len() == 18 {
-        return is_short(message);
-    }
-    false
 }

@@ -1,37 +1,61 @@
 -- Laws of little-endian numbers.
-use Prim.Native.Nat.{ℕ, zero, suc, ◌+◌, ◌*◌, ◌-◌, ◌/◌, ◌%◌, ◌^◌, ◌<◌, ◌≤◌}
-use mathlib.Core.Path.{◌≡◌, refl}
+use Prim.Native.Nat.{ℕ, zero, suc, ◌+◌, ◌*◌, ◌/◌, ◌%◌, ◌^◌, ◌<◌}
+use mathlib.Core.Path.{◌≡◌, refl, sym, ◌∙◌, ap}
 use mathlib.Core.List.{List, [], ◌∷◌}
 use native.Mathlib.Omega.{arith}
-use native.Mathlib.Numerals.{add-one}
 use native.Mathlib.Nat.{mul-suc}
 use lib.Arith.{digits_lt}
-use lib.ListN.{length, get_or, take}
-use lib.Pow.{pow-add, pow_mono, pow_pos, shr_lt}
-use lib.Seq.{drop-cons}
+use lib.ListN.{length, get_or, take, drop}
+use lib.Pow.{pow-add, pow_pos, shr_lt}
+use Rattle.std.specs.Int.{byte_worth, bytes_low_first, sum_through}
+use Rattle.std.proofs.Math.Nat.{div-div-eq-div-mul, pow-suc}
+use Rattle.std.proofs.lemmas.List.{take-take}
 use Rattle.records.specs.Record.{little, little_of, field_at, AreBytes}
-
--- A field is its first byte and 256 times the field after it.
-pub field_step : (bytes : List ℕ) (at width : ℕ) → at < length bytes → field_at bytes at (suc width) ≡ get_or bytes at 0 + 256 * field_at bytes (at + 1) width
-unfolding little
-field_step bytes at width h = rw (drop-cons bytes at 0 h, add-one)
 
 -- Another byte below a number of so many bytes makes one of one byte more.
 pub shift_in : (width : ℕ) {value byte : ℕ} → value < 2 ^ (8 * width) → byte < 256 → value * 256 + byte < 2 ^ (8 * suc width)
 shift_in width v b = rw (mul-suc 8 width, pow-add 2 (8 * width) 8) (digits_lt v b)
 
--- A number of at most eight bytes is a 64-bit number.
-pub fits_64 : (width : ℕ) {value : ℕ} → width ≤ 8 → value < 2 ^ (8 * width) → value < 2 ^ 64
-fits_64 width {value} w v =
-    let grown : 2 ^ (8 * width) ≤ 2 ^ 64 = pow_mono {i = 8 * width} {j = 64} (omega arith) in
-    omega arith
+-- A field of one byte is that byte.
+pub byte_read : (bytes : List ℕ) (at : ℕ) → get_or bytes at 0 ≡ field_at bytes at 1
+unfolding little
+byte_read [] zero = refl
+byte_read [] (suc at) = refl
+byte_read (b ∷ bytes) zero = omega arith
+byte_read (b ∷ bytes) (suc at) = byte_read bytes at
 
--- Taking one byte more, from the highest down.
-pub taken : (bytes : List ℕ) (at width left value : ℕ) → 0 < left → left ≤ width → at + width ≤ length bytes → value ≡ field_at bytes (at + left) (width - left) → value * 256 + get_or bytes (at + (left - 1)) 0 ≡ field_at bytes (at + (left - 1)) (width - (left - 1))
-taken bytes at width left value some inside room e =
-    let more : width - (left - 1) ≡ suc (width - left) = omega arith in
-    let next : at + (left - 1) + 1 ≡ at + left = omega arith in
-    rw (more, field_step bytes (at + (left - 1)) (width - left) (omega arith), next, ← e) (omega arith)
+-- one byte more counts as often as its place says
+one_more : (k : ℕ) (bytes : List ℕ) → little (take (suc k) bytes) ≡ little (take k bytes) + byte_worth k (get_or bytes k 0)
+unfolding little
+one_more zero [] = refl
+one_more (suc k) [] = omega arith
+one_more zero (b ∷ bytes) = omega arith
+one_more (suc zero) (b ∷ bytes) = rw (one_more zero bytes) (omega arith)
+one_more (suc (suc k)) (b ∷ bytes) = rw (one_more (suc k) bytes, pow-suc 256 (suc k)) (omega arith)
+
+-- so the number that the library reads from bytes is the one that they stand for
+from_bytes : (k : ℕ) (bytes : List ℕ) → sum_through (λ i. byte_worth i (get_or bytes i 0)) k ≡ little (take (suc k) bytes)
+unfolding little
+from_bytes zero bytes = byte_read bytes 0
+from_bytes (suc k) bytes = rw (from_bytes k bytes) (sym (one_more (suc k) bytes))
+
+-- A number that is read from a field's bytes is the field.
+pub field_read : (k : ℕ) {value : ℕ} {part : List ℕ} (bytes : List ℕ) (at : ℕ)
+    → part ≡ take (suc k) (drop at bytes)
+    → value ≡ sum_through (λ i. byte_worth i (get_or part i 0)) k
+    → value ≡ field_at bytes at (suc k)
+field_read k {part = part} bytes at e v =
+    v ∙ from_bytes k part ∙ ap (λ (xs : List ℕ). little (take (suc k) xs)) e ∙ ap little (take-take (suc k) (suc k) (drop at bytes) (omega arith))
+
+-- the bytes of a number, those from a place on
+from_byte : (i k n : ℕ) → bytes_low_first i k n ≡ little_of k (n / 256 ^ i)
+from_byte i zero n = refl
+from_byte zero (suc k) n = let same : n / 256 ^ 0 ≡ n = omega arith in rw (same, from_byte 1 k n)
+from_byte (suc i) (suc k) n = rw (from_byte (suc (suc i)) k n, div-div-eq-div-mul n (256 ^ suc i) 256, ← pow-suc 256 (suc i))
+
+-- The bytes that the library writes for a number are those that stand for it.
+pub to_bytes : (k n : ℕ) → bytes_low_first 0 k n ≡ little_of k n
+to_bytes k n = let same : n / 256 ^ 0 ≡ n = omega arith in rw same at (from_byte 0 k n)
 
 -- A number is read back from its bytes, where there are enough of them.
 pub back : (width n : ℕ) → n < 2 ^ (8 * width) → little (little_of width n) ≡ n

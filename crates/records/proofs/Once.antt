@@ -3,8 +3,8 @@ use Prim.Native.Nat.{ℕ}
 use mathlib.Core.Path.{◌≡◌, sym, ◌∙◌}
 use mathlib.Core.Bool.{Bool}
 use mathlib.Core.List.{List}
+use Rattle.std.proofs.Common.{Option}
 use Rattle.records.specs.declared.Record.{Record}
-use Rattle.records.specs.declared.Read.{Read}
 use Rattle.records.specs.declared.stream.Piece.{Piece}
 use Rattle.records.specs.Record.{zeros, read_at, room_at, written_at}
 use Rattle.records.specs.Stream.{piece_of}
@@ -19,7 +19,7 @@ cut_once bytes a b p q = p ∙ sym q
 
 module _ (bytes : List ℕ) (at : ℕ) where
   -- Of the same bytes and place there is one reading.
-  pub read_once : (a b : Read) → a ≡ read_at bytes at → b ≡ read_at bytes at → a ≡ b
+  pub read_once : (a b : Option Record) → a ≡ read_at bytes at → b ≡ read_at bytes at → a ≡ b
   read_once a b p q = p ∙ sym q
 
   -- Of the same record, buffer and place there is one answer, and one buffer afterwards.

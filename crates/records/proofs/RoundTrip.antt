@@ -8,9 +8,9 @@ use native.Mathlib.Omega.{arith}
 use lib.Dec.{leb}
 use lib.ListN.{length, take, drop, length-drop, take-append-drop, drop_of_length-le}
 use lib.Seq.{get_or-drop, drop-drop, drop_at, take-append_seam, take-add, length-take-le, length-paste}
+use Rattle.std.proofs.Common.{Some}
 use Rattle.records.specs.Record.{little, little_of, field_at, record_of, bytes_of, record_at, room_at, read_at, written_at, AreBytes, InRange}
 use Rattle.records.specs.declared.Record.{Record}
-use Rattle.records.specs.declared.Read.TheVariants.{Whole}
 use Rattle.records.proofs.Little.{back, forth, fits}
 use Rattle.records.proofs.Rest.{was_whole}
 
@@ -47,7 +47,7 @@ put_there at bytes new after room =
     rw (append_assoc (take at bytes) new after, drop_at (take at bytes) (new ++ after) at (length-take-le at bytes room)) (take-append_seam new after)
 
 -- A record that was written where there is room is read there.
-pub read_written : (r : Record) (bytes : List ℕ) (at : ℕ) → InRange r → at + 32 ≤ length bytes → read_at (written_at r bytes at) at ≡ Whole r
+pub read_written : (r : Record) (bytes : List ℕ) (at : ℕ) → InRange r → at + 32 ≤ length bytes → read_at (written_at r bytes at) at ≡ Some r
 read_written r bytes at h room =
     let now = take at bytes ++ bytes_of r ++ drop (at + 32) bytes in
     let fits : room_at now at ≡ true = le-leb (at + 32) (length now) (rw (length-paste bytes at (bytes_of r) 32 room (omega arith)) room) in
@@ -107,7 +107,7 @@ module _ (bytes : List ℕ) (h : AreBytes bytes) (size : length bytes ≡ 32) wh
       byte 0 refl (byte 1 refl (part 2 2 refl (part 4 2 refl (part 6 2 refl (part 8 2 refl (byte 10 refl (byte 11 refl (part 12 4 refl (part 16 8 refl (byte 24 refl (byte 25 refl (byte 26 refl (byte 27 refl (part 28 4 refl none))))))))))))))
 
 -- Writing at a place what was read there leaves the bytes as they were.
-pub write_read : (bytes : List ℕ) (at : ℕ) (r : Record) → AreBytes bytes → read_at bytes at ≡ Whole r → written_at r bytes at ≡ bytes
+pub write_read : (bytes : List ℕ) (at : ℕ) (r : Record) → AreBytes bytes → read_at bytes at ≡ Some r → written_at r bytes at ≡ bytes
 write_read bytes at r h e =
     let there = take 32 (drop at bytes) in
     let was = was_whole (room_at bytes at) (record_at bytes at) r e in

@@ -1,8 +1,6 @@
 -- Records of 32 bytes.
-use Rattle.std.specs.Prelude.{ℕ, zero, suc, ◌+◌, ◌*◌, ◌/◌, ◌%◌, ◌^◌, ◌<◌, Bool, cond, List, [], ◌∷◌, ◌++◌, leb, length, take, drop, get_or}
+use Rattle.std.specs.Prelude.{ℕ, zero, suc, ◌+◌, ◌*◌, ◌/◌, ◌%◌, ◌^◌, ◌<◌, Bool, cond, List, [], ◌∷◌, ◌++◌, leb, length, take, drop, get_or, Option, Some, None}
 use Rattle.records.specs.declared.Record.{Record}
-use Rattle.records.specs.declared.Read.{Read}
-use Rattle.records.specs.declared.Read.TheVariants.{Whole, Nothing}
 
 -- "numbers little-endian": the number that bytes stand for, the lowest byte first
 unfoldable pub little : List ℕ → ℕ
@@ -77,8 +75,8 @@ abbrev pub record_at : List ℕ → ℕ → Record
 record_at bytes at = record_of (take 32 (drop at bytes))
 
 -- what reading at a place gives
-abbrev pub read_at : List ℕ → ℕ → Read
-read_at bytes at = cond (room_at bytes at) (Whole (record_at bytes at)) Nothing
+abbrev pub read_at : List ℕ → ℕ → Option Record
+read_at bytes at = cond (room_at bytes at) (Some (record_at bytes at)) None
 
 -- what writing at a place leaves: "a short buffer is left as found"
 abbrev pub written_at : Record → List ℕ → ℕ → List ℕ

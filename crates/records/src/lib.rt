@@ -4,22 +4,46 @@
 
 pub mod stream;
 
-ghost use Rattle.std.specs.Prelude.{◌≡◌, ◌+◌, ◌*◌, ◌≤◌, ◌<◌, ◌^◌, length, leb};
-ghost use Rattle.records.specs.Record.{field_at, record_of, bytes_of, zeros, read_at, room_at, written_at};
+ghost use Rattle.std.specs.Prelude.{◌≡◌, ◌+◌, ◌≤◌, take, drop};
+ghost use Rattle.records.specs.Record.{record_of, bytes_of, zeros, read_at, room_at, written_at};
+ghost use Rattle.records.specs.Stream.{takes_bearers};
 
 // How many bytes a record has.
 pub const SIZE: usize = 32;
 
 // A handover's number at its source.
-#[derive(Clone, Copy)]
+#[derive(Clone, Copy, PartialEq, Eq, Default)]
 pub struct OldId(pub u16);
 
 // A handover's number at its target.
-#[derive(Clone, Copy)]
+#[derive(Clone, Copy, PartialEq, Eq, Default)]
 pub struct NewId(pub u16);
 
-// All fields of a record, those that its kind does not use among them.
+// The kinds of events and of messages, by their numbers. The kind of a record is any byte, one of these or none.
 #[derive(Clone, Copy)]
+pub enum Kind {
+    Request = 1,
+    Acknowledge = 2,
+    Failure = 3,
+    StatusTransfer = 4,
+    ContextRelease = 5,
+    HandoverCancel = 6,
+    ResetRequest = 7,
+    ResetResponse = 8,
+    Start = 9,
+    Cancel = 10,
+    Arrived = 11,
+    Returned = 12,
+    Left = 13,
+    Reset = 14,
+    Tick = 15,
+    Bearer = 16,
+    SendStatus = 17,
+    ReleaseUe = 20,
+}
+
+// All fields of a record, those that its kind does not use among them.
+#[derive(Clone, Copy, Default)]
 pub struct Record {
     pub kind: u8,
     pub neighbour: u8,
@@ -38,45 +62,49 @@ pub struct Record {
     pub bytes28: u32,
 }
 
-// What stands at a place: a record, or fewer bytes than one has.
-#[derive(Clone, Copy)]
-pub enum Read {
-    Whole(Record),
-    Nothing,
-}
-
 impl Record {
     // A record of zeros.
     pub fn zeros() -> Record
         ensures { result ≡ zeros }
     {
-        Record {
-            kind: 0,
-            neighbour: 0,
-            old: OldId(0),
-            new: NewId(0),
-            first: 0,
-            second: 0,
-            reason: 0,
-            byte11: 0,
-            number: 0,
-            time: 0,
-            erab: 0,
-            qci: 0,
-            priority: 0,
-            flags: 0,
-            bytes28: 0,
-        }
+        Record::default()
     }
 
-    // The record at a place.
-    pub fn read(bytes: &[u8], at: usize) -> Read
+    // Whether it takes bearer records after it: a request whose count is 1 to 256.
+    pub fn takes_bearers(self) -> bool
+        ensures { result ≡ takes_bearers self }
+    {
+        self.kind == Kind::Request as u8 && 1 <= self.number && self.number <= 256
+    }
+
+    // The record at a place, if there are as many bytes as one has.
+    pub fn read(bytes: &[u8], at: usize) -> Option<Record>
         ensures { result ≡ read_at bytes.now at }
     {
-        if has_room(bytes.len(), at) {
-            Read::Whole(fields(&bytes[at..at + SIZE]))
-        } else {
-            Read::Nothing
+        let found = bytes.get(at..)?.first_chunk()?;
+        Some(Record::of(found))
+    }
+
+    // The record that so many bytes are.
+    pub fn of(bytes: &[u8; SIZE]) -> Record
+        ensures { result ≡ record_of bytes.now }
+    {
+        Record {
+            kind: bytes[0],
+            neighbour: bytes[1],
+            old: OldId(u16::from_le_bytes(part(bytes, 2))),
+            new: NewId(u16::from_le_bytes(part(bytes, 4))),
+            first: u16::from_le_bytes(part(bytes, 6)),
+            second: u16::from_le_bytes(part(bytes, 8)),
+            reason: bytes[10],
+            byte11: bytes[11],
+            number: u32::from_le_bytes(part(bytes, 12)),
+            time: u64::from_le_bytes(part(bytes, 16)),
+            erab: bytes[24],
+            qci: bytes[25],
+            priority: bytes[26],
+            flags: bytes[27],
+            bytes28: u32::from_le_bytes(part(bytes, 28)),
         }
     }
 
@@ -84,100 +112,65 @@ impl Record {
     pub fn write(self, buffer: &mut [u8], at: usize) -> bool
         ensures { (result ≡ room_at buffer.old at) × (buffer.new ≡ written_at self buffer.old at) }
     {
-        if has_room(buffer.len(), at) {
-            let out = bytes_of(self);
-            buffer[at..at + SIZE].copy_from_slice(&out);
-            true
-        } else {
-            false
+        if buffer.len() < at || buffer.len() - at < SIZE {
+            return false;
         }
+        buffer[at..at + SIZE].copy_from_slice(&self.bytes());
+        true
+    }
+
+    // Its bytes.
+    fn bytes(self) -> [u8; SIZE]
+        ensures { result ≡ bytes_of self }
+    {
+        let [o0, o1] = self.old.0.to_le_bytes();
+        let [n0, n1] = self.new.0.to_le_bytes();
+        let [f0, f1] = self.first.to_le_bytes();
+        let [s0, s1] = self.second.to_le_bytes();
+        let [c0, c1, c2, c3] = self.number.to_le_bytes();
+        let [t0, t1, t2, t3, t4, t5, t6, t7] = self.time.to_le_bytes();
+        let [z0, z1, z2, z3] = self.bytes28.to_le_bytes();
+        [
+            self.kind,
+            self.neighbour,
+            o0,
+            o1,
+            n0,
+            n1,
+            f0,
+            f1,
+            s0,
+            s1,
+            self.reason,
+            self.byte11,
+            c0,
+            c1,
+            c2,
+            c3,
+            t0,
+            t1,
+            t2,
+            t3,
+            t4,
+            t5,
+            t6,
+            t7,
+            self.erab,
+            self.qci,
+            self.priority,
+            self.flags,
+            z0,
+            z1,
+            z2,
+            z3,
+        ]
     }
 }
 
-// Whether a record has room in so many bytes, from a place on.
-fn has_room(length: usize, at: usize) -> bool
-    ensures { result ≡ leb (at + 32) length }
+// So many bytes from a place on.
+fn part<const N: usize>(bytes: &[u8; SIZE], at: usize) -> [u8; N]
+    requires { at + N ≤ 32 }
+    ensures { result ≡ take N (drop at bytes.now) }
 {
-    if length < at {
-        return false;
-    }
-    SIZE <= length - at
-}
-
-// The fields of one record's bytes.
-fn fields(part: &[u8]) -> Record
-    requires { length part.now ≡ 32 }
-    ensures { result ≡ record_of part.now }
-{
-    Record {
-        kind: get(part, 0, 1) as u8,
-        neighbour: get(part, 1, 1) as u8,
-        old: OldId(get(part, 2, 2) as u16),
-        new: NewId(get(part, 4, 2) as u16),
-        first: get(part, 6, 2) as u16,
-        second: get(part, 8, 2) as u16,
-        reason: get(part, 10, 1) as u8,
-        byte11: get(part, 11, 1) as u8,
-        number: get(part, 12, 4) as u32,
-        time: get(part, 16, 8),
-        erab: get(part, 24, 1) as u8,
-        qci: get(part, 25, 1) as u8,
-        priority: get(part, 26, 1) as u8,
-        flags: get(part, 27, 1) as u8,
-        bytes28: get(part, 28, 4) as u32,
-    }
-}
-
-// The bytes of a record.
-fn bytes_of(r: Record) -> [u8; 32]
-    ensures { result ≡ bytes_of r }
-{
-    [
-        r.kind,
-        r.neighbour,
-        (r.old.0 % 256) as u8,
-        (r.old.0 / 256 % 256) as u8,
-        (r.new.0 % 256) as u8,
-        (r.new.0 / 256 % 256) as u8,
-        (r.first % 256) as u8,
-        (r.first / 256 % 256) as u8,
-        (r.second % 256) as u8,
-        (r.second / 256 % 256) as u8,
-        r.reason,
-        r.byte11,
-        (r.number % 256) as u8,
-        (r.number / 256 % 256) as u8,
-        (r.number / 256 / 256 % 256) as u8,
-        (r.number / 256 / 256 / 256 % 256) as u8,
-        (r.time % 256) as u8,
-        (r.time / 256 % 256) as u8,
-        (r.time / 256 / 256 % 256) as u8,
-        (r.time / 256 / 256 / 256 % 256) as u8,
-        (r.time / 256 / 256 / 256 / 256 % 256) as u8,
-        (r.time / 256 / 256 / 256 / 256 / 256 % 256) as u8,
-        (r.time / 256 / 256 / 256 / 256 / 256 / 256 % 256) as u8,
-        (r.time / 256 / 256 / 256 / 256 / 256 / 256 / 256 % 256) as u8,
-        r.erab,
-        r.qci,
-        r.priority,
-        r.flags,
-        (r.bytes28 % 256) as u8,
-        (r.bytes28 / 256 % 256) as u8,
-        (r.bytes28 / 256 / 256 % 256) as u8,
-        (r.bytes28 / 256 / 256 / 256 % 256) as u8,
-    ]
-}
-
-// The number of `width` bytes from `at`, the lowest byte first.
-fn get(part: &[u8], at: usize, width: usize) -> u64
-    requires { (width ≤ 8) × (at + width ≤ length part.now) }
-    ensures { (result ≡ field_at part.now at width) × (result < 2 ^ (8 * width)) }
-{
-    let mut value: u64 = 0;
-    let mut left = width;
-    while left > 0 {
-        left -= 1;
-        value = value * 256 + part[at + left] as u64;
-    }
-    value
+    *bytes[at..].first_chunk().unwrap()
 }

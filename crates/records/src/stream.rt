@@ -1,8 +1,8 @@
 // How a stream of records is cut into events: each byte belongs to exactly one.
-ghost use Rattle.std.specs.Prelude.{◌≡◌, ◌+◌, ◌*◌, ◌≤◌, drop};
-ghost use Rattle.records.specs.Stream.{takes_bearers, bearer_first, bearers_in, request_in, piece_of};
+ghost use Rattle.std.specs.Prelude.{◌≡◌, ◌≤◌};
+ghost use Rattle.records.specs.Stream.{bearers_in, request_in, piece_of};
 
-use crate::{Read, Record, SIZE};
+use crate::{Kind, Record, SIZE};
 
 // The event at the front of some bytes.
 #[derive(Clone, Copy)]
@@ -16,29 +16,26 @@ pub struct Piece {
 }
 
 // The event at the front of some bytes: the next one starts after it.
+#[tactic(auto, using(crate::proofs::Cutting::bearers_within))]
 pub fn cut(bytes: &[u8]) -> Piece
     ensures { result ≡ piece_of bytes.now }
 {
-    let read = Record::read(bytes, 0);
-    match read {
-        Read::Nothing => Piece {
+    let Some(head) = Record::read(bytes, 0) else {
+        return Piece {
             head: Record::zeros(),
             size: bytes.len(),
             whole: false,
-        },
-        Read::Whole(record) => {
-            if takes_bearers(record) {
-                let size = past_bearers(bytes, SIZE, record.number);
-                request(record, size, bytes.len())
-            } else {
-                Piece {
-                    head: record,
-                    size: SIZE,
-                    whole: true,
-                }
-            }
-        }
+        };
+    };
+    if !head.takes_bearers() {
+        return Piece {
+            head,
+            size: SIZE,
+            whole: true,
+        };
     }
+    let size = SIZE + SIZE * bearers_in(&bytes[SIZE..], head.number);
+    request(head, size, bytes.len())
 }
 
 // A request of so many bytes, at the front of so many: it takes no more if it has all its bearers, or another record stands after it.
@@ -53,32 +50,15 @@ fn request(head: Record, size: usize, length: usize) -> Piece
     }
 }
 
-// Whether a record takes bearer records after it: a request whose count is 1 to 256.
-fn takes_bearers(r: Record) -> bool
-    ensures { result ≡ takes_bearers r }
+// How many bearer records stand at the front, at most so many.
+fn bearers_in(rest: &[u8], most: u32) -> usize
+    ensures { result ≡ bearers_in most rest.now }
 {
-    if r.kind != 1 {
-        return false;
+    let (records, _) = rest.as_chunks::<SIZE>();
+    for (i, record) in records.iter().enumerate() {
+        if i == most as usize || record[0] != Kind::Bearer as u8 {
+            return i;
+        }
     }
-    1 <= r.number && r.number <= 256
-}
-
-// The place after the bearer records that stand from a place on, at most so many.
-fn past_bearers(bytes: &[u8], at: usize, most: u32) -> usize
-    ensures { result ≡ at + 32 * bearers_in most (drop at bytes.now) }
-{
-    let mut place = at;
-    let mut left = most;
-    while left > 0 && bearer_at(bytes, place) {
-        place += SIZE;
-        left -= 1;
-    }
-    place
-}
-
-// Whether a bearer record stands at a place.
-fn bearer_at(bytes: &[u8], at: usize) -> bool
-    ensures { result ≡ bearer_first (drop at bytes.now) }
-{
-    crate::has_room(bytes.len(), at) && bytes[at] == 16
+    records.len()
 }

@@ -8,7 +8,7 @@ ghost use Rattle.sets.specs.Sets.{member, add, union, disjoint, within};
 pub fn member(set: u16, id: u8) -> bool
     ensures { result ≡ member set id }
 {
-    if id < 16 { (set >> id) % 2 == 1 } else { false }
+    id < 16 && (set >> id) % 2 == 1
 }
 
 // A set with an ID more. An ID above 15 is not added.

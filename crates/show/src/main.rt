@@ -3,61 +3,39 @@
 
 use buffers::carry;
 use showing::{ROOM, Sheet};
+use std::io;
 use std::io::Read;
 
-// A run between two reads: how many bytes the input buffer holds, and whether there is more to do.
+// A run between two reads: how many bytes the input buffer holds.
 #[derive(Clone, Copy)]
 struct Stage {
     sheet: Sheet,
     held: usize,
-    more: bool,
 }
 
-// Writes so many bytes of the output buffer: whether the output took them.
-fn write_text(rt: &HostRuntime, output: &[u8], size: usize) -> bool {
-    if output.len() < size {
-        return false;
-    }
-    if rt.write_all(&output[..size]).is_ok() {
-        return true;
-    }
-    let _ = rt.eprint("show: cannot write\n");
-    false
-}
-
-// Shows the first so many records.
-fn show_all(rt: &HostRuntime, s: Stage, bytes: &[u8], output: &mut [u8]) -> Stage {
-    let mut sheet = s.sheet;
-    let mut more = true;
-    let mut left = bytes.len();
-    let mut taken: usize = 0;
-    while more & (32 <= left) {
-        let shown = sheet.show(&bytes[taken..], output);
+// Shows the whole records among some bytes.
+fn show_all(rt: &HostRuntime, s: Sheet, bytes: &[u8], output: &mut [u8]) -> io::Result<Sheet> {
+    let mut sheet = s;
+    for record in bytes.chunks_exact(32) {
+        let shown = sheet.show(record, output);
+        rt.write_all(&output[..shown.written])?;
         sheet = shown.sheet;
-        more = write_text(rt, output, shown.written);
-        left -= 32;
-        taken += 32;
     }
-    Stage {
-        sheet,
-        held: taken,
-        more,
-    }
+    Ok(sheet)
 }
 
 // Reads once, shows the whole records that are there, and carries the rest to the front. At the end of the input the rest is
-// shown too.
-fn turn(rt: &HostRuntime, s: Stage, input: &mut [u8], output: &mut [u8]) -> Stage {
-    let held = s.held;
-    let sheet = s.sheet;
-    if input.len() <= held {
-        return Stage {
-            sheet,
-            held,
-            more: false,
-        };
+// shown too, and no stage follows.
+fn turn(
+    rt: &HostRuntime,
+    s: Stage,
+    input: &mut [u8],
+    output: &mut [u8],
+) -> io::Result<Option<Stage>> {
+    if input.len() <= s.held {
+        return Ok(None);
     }
-    let count = match rt.stdin().read(&mut input[held..]) {
+    let count = match rt.stdin().read(&mut input[s.held..]) {
         Ok(count) => count,
         Err(_) => {
             let _ = rt.eprint("show: cannot read\n");
@@ -65,38 +43,32 @@ fn turn(rt: &HostRuntime, s: Stage, input: &mut [u8], output: &mut [u8]) -> Stag
         }
     };
     if count == 0 {
-        let size = sheet.finish(&input[..held], output);
-        write_text(rt, output, size);
-        return Stage {
-            sheet,
-            held,
-            more: false,
-        };
+        let size = s.sheet.finish(&input[..s.held], output);
+        rt.write_all(&output[..size])?;
+        return Ok(None);
     }
-    let end = held + count;
-    let shown = show_all(rt, s, &input[..end], output);
-    let next = shown.sheet;
-    let left = carry(input, shown.held, end);
-    Stage {
-        sheet: next,
-        held: left,
-        more: shown.more,
-    }
+    let end = s.held + count;
+    let sheet = show_all(rt, s.sheet, &input[..end], output)?;
+    let held = carry(input, end / 32 * 32, end);
+    Ok(Some(Stage { sheet, held }))
 }
 
 fn main(rt: HostRuntime) {
     let mut input = [0u8; 65536];
     let mut output = [0u8; ROOM];
-    let sheet = Sheet::new();
     let mut s = Stage {
-        sheet,
+        sheet: Sheet::new(),
         held: 0,
-        more: true,
     };
     // A proved loop has to end, and nothing says that the input does: no run takes so many turns.
-    let mut turns = u64::MAX;
-    while s.more & (0 < turns) {
-        s = turn(&rt, s, &mut input, &mut output);
-        turns -= 1;
+    for _ in 0..u64::MAX {
+        match turn(&rt, s, &mut input, &mut output) {
+            Ok(Some(next)) => s = next,
+            Ok(None) => return,
+            Err(_) => {
+                let _ = rt.eprint("show: cannot write\n");
+                return;
+            }
+        }
     }
 }

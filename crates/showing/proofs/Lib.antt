@@ -1,2 +1,3 @@
 pub mod Once
-pub mod Writing
+pub mod Paging
+pub mod Texts

@@ -1,4 +1,6 @@
 -- An own ID that is issued is in use by no record.
+use Rattle.std.specs.List.{list_any}
+use Rattle.std.specs.Prelude.{Some}
 use Prim.Native.Nat.{ℕ, zero, suc, ◌+◌, ◌≤◌, ◌<◌}
 use mathlib.Core.Path.{◌≡◌, refl, ◌∙◌, sym}
 use mathlib.Core.Bool.{true, false, cond, not, ◌&&◌, or-false, true≢false}
@@ -12,9 +14,8 @@ use Rattle.laws.proofs.Sums.{total_most, total_add, total_each}
 use Rattle.laws.specs.Sums.{total}
 use Rattle.laws.proofs.Tests.{by_cases, both_true, eqb_sym}
 use Rattle.handover.specs.declared.Entry.{Entry}
-use Rattle.places.specs.declared.Found.TheVariants.{At}
 use Rattle.table.specs.declared.Station.{Station}
-use Rattle.handover.specs.Numbers.{is_free, blank, own, own_is, any_of, next_after, issue_from}
+use Rattle.handover.specs.Numbers.{is_free, blank, own, own_is, next_after, issue_from}
 use Rattle.table.specs.Sound.{Fit, Sound, own_times}
 use Rattle.table.specs.Step.{issue}
 use Rattle.table.specs.Table.{find}
@@ -90,14 +91,14 @@ issued_small : (n c : ℕ) (rs : List Entry) → c < 4096 → issue_from n c rs 
 unfolding issue_from
 issued_small zero c rs h = h
 issued_small (suc n) c rs h =
-    by_cases (any_of (own_is c) rs) (λ t. rw t (issued_small n (next_after c) rs (next_small c h))) (λ t. rw t h)
+    by_cases (list_any (own_is c) rs) (λ t. rw t (issued_small n (next_after c) rs (next_small c h))) (λ t. rw t h)
 
 -- If a record has the number at which the search ends, every number that it passed over is some record's.
-all_used : (n c : ℕ) (rs : List Entry) → any_of (own_is (issue_from n c rs)) rs ≡ true → n ≤ along (λ k. total (own_times k) rs) n c
+all_used : (n c : ℕ) (rs : List Entry) → list_any (own_is (issue_from n c rs)) rs ≡ true → n ≤ along (λ k. total (own_times k) rs) n c
 unfolding along issue_from
 all_used zero c rs used = omega arith
 all_used (suc n) c rs used =
-    by_cases (any_of (own_is c) rs)
+    by_cases (list_any (own_is c) rs)
     (λ t. omega (arith, total_any (own_is c) rs t, all_used n (next_after c) rs (rw t at used)))
     (λ t. absurd (true≢false (sym (rw t at used) ∙ t)))
 
@@ -130,7 +131,7 @@ few_own n c r fit small few =
     rw t (omega (arith, one, passed_once (own r) n c fit.id small few)))
 
 -- Own IDs stay distinct where a record is added whose own ID no other has.
-pub own_once : (rs : List Entry) (r : Entry) (k : ℕ) → total (own_times k) rs ≤ 1 → any_of (own_is (own r)) rs ≡ false → total (own_times k) rs + own_times k r ≤ 1
+pub own_once : (rs : List Entry) (r : Entry) (k : ℕ) → total (own_times k) rs ≤ 1 → list_any (own_is (own r)) rs ≡ false → total (own_times k) rs + own_times k r ≤ 1
 own_once rs r k distinct unused =
     by_cases (eqb k (own r))
     (λ t.
@@ -145,9 +146,9 @@ module _ (s : Station) (sound : Sound s) where
 
   -- Where a place of the table is free, no record has the own ID that is issued: 64 numbers are tried, and 63 records have one each
   -- at most.
-  pub issue_unused : (i : ℕ) → find is_free s ≡ At i → any_of (own_is (issue s)) s.entries ≡ false
+  pub issue_unused : (i : ℕ) → find is_free s ≡ Some i → list_any (own_is (issue s)) s.entries ≡ false
   issue_unused i found =
-      by_cases (any_of (own_is (issue s)) s.entries)
+      by_cases (list_any (own_is (issue s)) s.entries)
       (λ t.
       let c = next_after s.last in
       let times : Entry → ℕ = λ r. along (λ k. own_times k r) 64 c in

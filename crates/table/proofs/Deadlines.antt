@@ -1,4 +1,5 @@
 -- When a timer runs out: the three sums, from the clock.
+use Rattle.std.specs.Prelude.{Some}
 use Prim.Native.Nat.{ℕ, ◌+◌, ◌<◌}
 use mathlib.Core.Path.{◌≡◌, refl}
 use mathlib.Core.Bool.{true}
@@ -15,7 +16,6 @@ use Rattle.handover.specs.Numbers.{is_free, blank, own_is}
 use Rattle.handover.proofs.Done.{acknowledge_done}
 use Rattle.handover.proofs.Keys.{same_neighbour, same_old}
 use Rattle.table.specs.declared.Answer.{Answer}
-use Rattle.places.specs.declared.Found.TheVariants.{At}
 use Rattle.table.specs.declared.Station.{Station}
 use Rattle.table.specs.Sound.{Sound}
 use Rattle.table.specs.Step.{issue, started, held_for, admission, taken, step_of}
@@ -48,14 +48,14 @@ module _ (s : Station) (sound : Sound s) (e : Record) (bearers : List ℕ) (room
   untimed nine two one = record { start = λ k _. absurd (nine k); acknowledge = λ k _. absurd (two k); request = λ k _. absurd (one k) }
 
   -- A record that is made stands at its place.
-  made : (i : ℕ) (r : Entry) → find is_free s ≡ At i → own_is (issue s) r ≡ true → Due r.neighbour (issue s) r.deadline (add i (issue s) r s)
+  made : (i : ℕ) (r : Entry) → find is_free s ≡ Some i → own_is (issue s) r ≡ true → Due r.neighbour (issue s) r.deadline (add i (issue s) r s)
   made i r free mine =
       let here = get_or-set_same s.entries i r blank (found_here is_free s i free).0 in
       record { place = i; within = found_place s sound is_free i free; own = rw here mine; its = rw here; time = rw here }
 
   part_timed : {a : Answer} → Part s e bearers room a → Timed s e a
   part_timed (as_refusal f refusal) = undone (λ zero. omega (arith, refusal.low))
-  part_timed (as_response kind) = untimed (λ k. omega (arith, rw k at kind)) (λ k. omega (arith, rw k at kind)) (λ k. omega (arith, rw k at kind))
+  part_timed (as_response kind) = untimed (λ k. cc (rw k at kind)) (λ k. cc (rw k at kind)) (λ k. cc (rw k at kind))
   part_timed (as_failure n low _ _) = undone (λ zero. omega arith)
   part_timed (as_grant i _ one _ _ free) =
       record {
@@ -69,12 +69,12 @@ module _ (s : Station) (sound : Sound s) (e : Record) (bearers : List ℕ) (room
         acknowledge = λ two _. absurd (omega arith);
         request = λ one _. absurd (omega arith);
       }
-  part_timed (as_reset kind) = untimed (λ k. omega (arith, rw k at kind)) (λ k. omega (arith, rw k at kind)) (λ k. omega (arith, rw k at kind))
+  part_timed (as_reset kind) = untimed (λ k. cc (rw k at kind)) (λ k. cc (rw k at kind)) (λ k. cc (rw k at kind))
   part_timed (as_idle _ _) = undone (λ zero. omega arith)
   part_timed (as_tick i _ fifteen _) = untimed (λ k. omega arith) (λ k. omega arith) (λ k. omega arith)
   part_timed (as_event i _ single found) =
       record {
-        start = λ nine _. absurd (omega (arith, rw nine at single));
+        start = λ nine _. absurd (cc (rw nine at single));
         acknowledge = λ two zero.
             let r = get_or s.entries i blank in
             let mine = found_here (about e) s i found in
@@ -88,7 +88,7 @@ module _ (s : Station) (sound : Sound s) (e : Record) (bearers : List ℕ) (room
               its = rw here (same_neighbour e r mine.1 2 two refl);
               time = rw here;
             });
-        request = λ one _. absurd (omega (arith, rw one at single));
+        request = λ one _. absurd (cc (rw one at single));
       }
 
   pub timed : Timed s e (step_of s e bearers room)

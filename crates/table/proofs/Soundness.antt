@@ -1,4 +1,5 @@
 -- Every station that a fresh one reached is sound.
+use Rattle.std.specs.Prelude.{Some, None}
 use Prim.Native.Nat.{ℕ, ◌+◌, ◌*◌, ◌≤◌, ◌<◌}
 use mathlib.Core.Path.{◌≡◌, refl, sym}
 use mathlib.Core.Bool.{true, false, cond, ◌&&◌}
@@ -14,7 +15,6 @@ use Rattle.records.specs.declared.Record.{Record}
 use Rattle.bearers.specs.Admission.{judgeable}
 use Rattle.table.specs.declared.Answer.{Answer}
 use Rattle.handover.specs.declared.Entry.{Entry}
-use Rattle.places.specs.declared.Found.TheVariants.{At, Nothing}
 use Rattle.table.specs.declared.Settings.{Settings}
 use Rattle.table.specs.declared.Station.{Station}
 use Rattle.handover.specs.Events.{about, decide}
@@ -51,7 +51,7 @@ sound_decided s sound e i deadline place low high =
 
 module _ (s : Station) (sound : Sound s) where
   -- A record that fits may be made at a free place, with the own ID that is issued.
-  sound_made : (i : ℕ) (r : Entry) → find is_free s ≡ At i → Fit r → own r ≡ issue s
+  sound_made : (i : ℕ) (r : Entry) → find is_free s ≡ Some i → Fit r → own r ≡ issue s
       → ((n o : ℕ) → total (held_times n o) s.entries + held_times n o r ≤ 1)
       → s.used + r.units ≤ s.settings.capacity → Sound (add i (issue s) r s)
   sound_made i r found fit issued held units =
@@ -59,12 +59,12 @@ module _ (s : Station) (sound : Sound s) where
       (λ k. own_once s.entries r k (sound.distinct k) (rw issued (issue_unused s sound i found))) held units
 
   -- Where a request is about no record, none is held for its neighbour and its Old ID but the one that it makes.
-  held_once : (e : Record) (bytes : List ℕ) → e.kind ≡ 1 → find (about e) s ≡ Nothing → (n o : ℕ) → total (held_times n o) s.entries + held_times n o (held_for e (admission bytes s) s) ≤ 1
+  held_once : (e : Record) (bytes : List ℕ) → e.kind ≡ 1 → find (about e) s ≡ None → (n o : ℕ) → total (held_times n o) s.entries + held_times n o (held_for e (admission bytes s) s) ≤ 1
   held_once e bytes one none n o =
       by_cases (eqb e.neighbour n && eqb e.old.0 o)
       (λ t.
       let both = both_true (eqb e.neighbour n) (eqb e.old.0 o) t in
-      let other = total_none_of (held_times e.neighbour e.old.0) (about e) s.entries (λ r. held_about e r one) (found_none (about e) s.entries 0 none) in
+      let other = total_none_of (held_times e.neighbour e.old.0) (about e) s.entries (λ r. held_about e r one) (found_none (about e) s.entries none) in
       rw (t, ← eqb-true e.neighbour n both.0, ← eqb-true e.old.0 o both.1) (omega arith))
       (λ t. rw t (omega (arith, sound.unique n o)))
 

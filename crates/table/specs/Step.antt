@@ -1,5 +1,5 @@
 -- Every step takes the station and hands the next station back.
-use Rattle.std.specs.Prelude.{ℕ, ◌+◌, ◌-◌, ◌*◌, ◌/◌, Bool, cond, ◌&&◌, List, leb, ltb, eqb, length, get_or, take, replicate}
+use Rattle.std.specs.Prelude.{ℕ, ◌+◌, ◌-◌, ◌*◌, ◌/◌, Bool, cond, ◌&&◌, List, leb, ltb, eqb, length, get_or, take, replicate, Option, Some, None}
 use Rattle.records.specs.declared.Record.{Record}
 use Rattle.bearers.specs.declared.Admission.{Admission}
 use Rattle.bearers.specs.declared.Flaw.{Flaw}
@@ -8,16 +8,17 @@ use Rattle.bearers.specs.Flaws.{flaw_of}
 use Rattle.bearers.specs.Bearer as bearer
 use Rattle.table.specs.declared.Answer.{Answer}
 use Rattle.table.specs.declared.Birth.{Birth}
+use Rattle.handover.specs.declared.Action.TheVariants.{Started, Held}
 use Rattle.handover.specs.declared.Decision.{Decision}
 use Rattle.handover.specs.declared.Entry.{Entry}
-use Rattle.places.specs.declared.Found.{Found}
-use Rattle.places.specs.declared.Found.TheVariants.{At, Nothing}
 use Rattle.answers.specs.Answers.{said, refusal, flaw_in, missing}
 use Rattle.table.specs.declared.Settings.{Settings}
 use Rattle.table.specs.declared.Station.{Station}
 use Rattle.handover.specs.Numbers.{is_free, blank, preparing, held, next_after, issue_from}
-use Rattle.fields.specs.Fields.{one_record, all_of_neighbour, soonest_due, new_record, a_request, no_change, sort_of_event}
-use Rattle.handover.specs.Events.{about, action_of, message, silence, decide}
+use Rattle.fields.specs.declared.Sort.{Sort}
+use Rattle.fields.specs.declared.Sort.TheVariants.{NoEvent, OneRecord, AllOfNeighbour, SoonestDue, NewRecord, Request, NoChange}
+use Rattle.fields.specs.Fields.{same_sort, sort_of_event}
+use Rattle.handover.specs.Events.{about, action_of, same_action, message, silence, decide}
 use Rattle.table.specs.Table.{find, soonest, at, put, add, reset}
 
 -- an answer: reply, ending, admitted count and message, beside the next station
@@ -37,9 +38,9 @@ abbrev pub carried : ℕ → Decision → Station → Answer
 carried i d s = answer d.reply d.ending 0 d.message (put i d.entry s)
 
 -- "1, 2, 6, 7 for the rest"
-abbrev pub about_one : Record → Found → Station → Answer
-about_one e (At i) s = carried i (decide e (get_or s.entries i blank) (s.clock + s.settings.overall)) s
-about_one e Nothing s = refused 2 s
+abbrev pub about_one : Record → Option ℕ → Station → Answer
+about_one e (Some i) s = carried i (decide e (get_or s.entries i blank) (s.clock + s.settings.overall)) s
+about_one e None s = refused 2 s
 
 -- "7 and 14: all outgoing and held records of that neighbour end; 7 sends 8, 14 sends 7; ending 10 even if there was none"
 abbrev pub reset_of : Record → Station → Answer
@@ -57,14 +58,14 @@ abbrev pub starting : Record → ℕ → Station → Answer
 starting e i s = answer 0 0 0 (message 1 e.neighbour (issue s) 0 e.first 0 0) (add i (issue s) (started e s) s)
 
 -- where a place is free, the table says whether it is so used
-abbrev pub start_at : Record → Found → Station → Answer
-start_at e Nothing s = refused 4 s
-start_at e (At i) s = cond (eqb (action_of e.kind 0) 14) (starting e i s) (refused 6 s)
+abbrev pub start_at : Record → Option ℕ → Station → Answer
+start_at e None s = refused 4 s
+start_at e (Some i) s = cond (same_action (action_of e.kind 0) Started) (starting e i s) (refused 6 s)
 
 -- "15: the clock becomes the time"; "1, 8, 9 for ticks"
-abbrev pub tick_at : Record → Found → Station → Answer
-tick_at e Nothing s = refused 9 s
-tick_at e (At i) s = carried i (decide e (get_or s.entries i blank) 0) s
+abbrev pub tick_at : Record → Option ℕ → Station → Answer
+tick_at e None s = refused 9 s
+tick_at e (Some i) s = carried i (decide e (get_or s.entries i blank) 0) s
 
 abbrev pub tick_of : Record → Station → Answer
 tick_of e s =
@@ -82,8 +83,13 @@ abbrev pub complete : Record → List ℕ → ℕ → Bool
 complete e bearers room = leb (e.number * 32) (length bearers) && judgeable (taken e bearers) room
 
 -- what is wrong with it where they are not
-abbrev pub flaw_at : Record → List ℕ → ℕ → Flaw
-flaw_at e bearers room = cond (leb (e.number * 32) (length bearers)) (flaw_of (taken e bearers) room) missing
+abbrev pub flaw_at : Record → List ℕ → ℕ → Option Flaw
+flaw_at e bearers room = cond (leb (e.number * 32) (length bearers)) (flaw_of (taken e bearers) room) (Some missing)
+
+-- what is malformed is told ahead of all others
+abbrev pub unless : Option Flaw → Answer → Station → Answer
+unless (Some flaw) other s = malformed flaw s
+unless None other s = other
 
 -- "the free units are the capacity less these"
 abbrev pub free_units : Station → ℕ
@@ -110,30 +116,30 @@ granted e a i s =
 abbrev pub grant_at : Record → Admission → ℕ → Station → Answer
 grant_at e a i s =
     cond (eqb a.admitted 0) (failure 5 e s)
-    (cond (eqb (action_of e.kind 0) 15) (granted e a i s) (refused 6 s))
+    (cond (same_action (action_of e.kind 0) Held) (granted e a i s) (refused 6 s))
 
 -- with its bearers at hand and a free place, if there is one; and what it leaves in the verdict buffer
-abbrev pub admitted_at : Record → List ℕ → Found → Station → Answer
-admitted_at e bearers Nothing s = failure 4 e s
-admitted_at e bearers (At i) s = grant_at e (admission bearers s) i s
+abbrev pub admitted_at : Record → List ℕ → Option ℕ → Station → Answer
+admitted_at e bearers None s = failure 4 e s
+admitted_at e bearers (Some i) s = grant_at e (admission bearers s) i s
 
-abbrev pub verdicts_at : List ℕ → Found → Station → List ℕ → List ℕ
-verdicts_at bearers Nothing s buffer = all_five (length bearers / 32) buffer
-verdicts_at bearers (At i) s buffer = verdicts_in bearers (free_units s) buffer
+abbrev pub verdicts_at : List ℕ → Option ℕ → Station → List ℕ → List ℕ
+verdicts_at bearers None s buffer = all_five (length bearers / 32) buffer
+verdicts_at bearers (Some i) s buffer = verdicts_in bearers (free_units s) buffer
 
 -- a held record that has its neighbour and Old ID, if there is one
-abbrev pub repeat_of : Record → List ℕ → Found → Station → Answer
-repeat_of e bearers (At i) s = refused 3 s
-repeat_of e bearers Nothing s = admitted_at e bearers (find is_free s) s
+abbrev pub repeat_of : Record → List ℕ → Option ℕ → Station → Answer
+repeat_of e bearers (Some i) s = refused 3 s
+repeat_of e bearers None s = admitted_at e bearers (find is_free s) s
 
-abbrev pub verdicts_repeat : List ℕ → Found → Station → List ℕ → List ℕ
-verdicts_repeat bearers (At i) s buffer = buffer
-verdicts_repeat bearers Nothing s buffer = verdicts_at bearers (find is_free s) s buffer
+abbrev pub verdicts_repeat : List ℕ → Option ℕ → Station → List ℕ → List ℕ
+verdicts_repeat bearers (Some i) s buffer = buffer
+verdicts_repeat bearers None s buffer = verdicts_at bearers (find is_free s) s buffer
 
 -- "3, 4, 5 for requests", what is malformed ahead of them
 abbrev pub request_of : Record → List ℕ → ℕ → Station → Answer
 request_of e bearers room s =
-    cond (complete e bearers room) (repeat_of e (taken e bearers) (find (about e) s) s) (malformed (flaw_at e bearers room) s)
+    unless (flaw_at e bearers room) (repeat_of e (taken e bearers) (find (about e) s) s) s
 
 abbrev pub request_verdicts : Record → List ℕ → Station → List ℕ → List ℕ
 request_verdicts e bearers s buffer =
@@ -142,15 +148,14 @@ request_verdicts e bearers s buffer =
 -- ---- the step
 
 -- what an event does, by its sort; a kind that is no event by itself is malformed
-abbrev pub by_sort : ℕ → Record → List ℕ → ℕ → Station → Answer
-by_sort sort e bearers room s =
-    cond (eqb sort one_record) (about_one e (find (about e) s) s)
-    (cond (eqb sort soonest_due) (tick_of e s)
-    (cond (eqb sort new_record) (start_at e (find is_free s) s)
-    (cond (eqb sort all_of_neighbour) (reset_of e s)
-    (cond (eqb sort a_request) (request_of e bearers room s)
-    (cond (eqb sort no_change) (answer 0 0 0 silence s)
-    (malformed (flaw_in e) s))))))
+abbrev pub by_sort : Sort → Record → List ℕ → ℕ → Station → Answer
+by_sort OneRecord e bearers room s = about_one e (find (about e) s) s
+by_sort SoonestDue e bearers room s = tick_of e s
+by_sort NewRecord e bearers room s = start_at e (find is_free s) s
+by_sort AllOfNeighbour e bearers room s = reset_of e s
+by_sort Request e bearers room s = request_of e bearers room s
+by_sort NoChange e bearers room s = answer 0 0 0 silence s
+by_sort NoEvent e bearers room s = malformed (flaw_in e) s
 
 -- one event with the bytes that follow it and so much room for verdicts: what is malformed ahead of all others
 abbrev pub step_of : Station → Record → List ℕ → ℕ → Answer
@@ -158,7 +163,7 @@ step_of s e bearers room = by_sort (sort_of_event e) e bearers room s
 
 -- the verdict buffer after it
 abbrev pub verdicts_of : Station → Record → List ℕ → List ℕ → List ℕ
-verdicts_of s e bearers buffer = cond (eqb (sort_of_event e) a_request) (request_verdicts e bearers s buffer) buffer
+verdicts_of s e bearers buffer = cond (same_sort (sort_of_event e) Request) (request_verdicts e bearers s buffer) buffer
 
 -- ---- birth
 

@@ -1,36 +1,22 @@
 -- The table: how a record is found, and the ways in which a station changes.
-use Rattle.std.specs.Prelude.{ℕ, ◌+◌, ◌-◌, ◌^◌, ◌<◌, ◌≤◌, ◌≡◌, Bool, cond, ◌&&◌, ◌||◌, List, [], ◌∷◌, map, length, get_or, set}
+use Rattle.std.specs.Prelude.{ℕ, ◌+◌, ◌-◌, ◌^◌, ◌<◌, ◌≤◌, ◌≡◌, Bool, cond, List, map, length, get_or, set, position, Option, None}
 use Rattle.laws.specs.Sums.{total}
 use Rattle.records.specs.declared.Record.{Record}
-use Rattle.table.specs.declared.Best.{Best}
 use Rattle.handover.specs.declared.Entry.{Entry}
-use Rattle.places.specs.declared.Found.{Found}
-use Rattle.places.specs.declared.Found.TheVariants.{At, Nothing}
 use Rattle.table.specs.declared.Station.{Station}
-use Rattle.handover.specs.Numbers.{is_free, blank}
-use Rattle.places.specs.Places.{find_from}
-use Rattle.handover.specs.Events.{key, resets, due_by, sooner}
+use Rattle.handover.specs.Numbers.{blank}
+use Rattle.handover.specs.Events.{resets}
+use Rattle.places.specs.Places.{due_from}
 
 -- ---- finding
 
 -- the first place at which a test holds
-abbrev pub find : (Entry → Bool) → Station → Found
-find test s = find_from test 0 s.entries
+abbrev pub find : (Entry → Bool) → Station → Option ℕ
+find test s = position test s.entries
 
--- the soonest so far and its place, a free one standing for none; and the place, once all were looked at
-abbrev pub better_by : (ℕ → ℕ) → Record → ℕ → Entry → Best → Best
-better_by by e i r best =
-    cond (due_by by e r && (is_free best.entry || sooner r best.entry)) (record { place = i; entry = r }) best
-
-abbrev pub place_of : Best → Found
-place_of best = cond (is_free best.entry) Nothing (At best.place)
-
-unfoldable pub due_from : Record → Best → ℕ → List Entry → Found
-due_from e best i [] = place_of best
-due_from e best i (r ∷ rs) = due_from e (better_by (key e.kind) e i r best) (i + 1) rs
-
-abbrev pub soonest : Record → Station → Found
-soonest e s = due_from e (record { place = 0; entry = blank }) 0 s.entries
+-- the place of the record that a tick is about
+abbrev pub soonest : Record → Station → Option ℕ
+soonest e s = due_from e None 0 s.entries
 
 -- ---- the four ways in which a station changes
 

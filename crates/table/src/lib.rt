@@ -2,27 +2,24 @@
 // reply and at most one message to send.
 #![tactic(auto)]
 
-ghost use Rattle.std.specs.Prelude.{◌≡◌, ◌-◌, ◌/◌, ◌≤◌, ◌<◌, cond, ◌&&◌, ◌||◌, [], length, get_or};
+ghost use Rattle.std.specs.Prelude.{◌≡◌, ◌-◌, ◌/◌, ◌≤◌, ◌<◌, cond, [], length, Some};
 ghost use Rattle.bearers.specs.Admission.{judgeable, all_five};
 ghost use Rattle.bearers.specs.Flaws.{flaw_of};
 ghost use Rattle.handover.specs.Numbers.{is_free};
 ghost use Rattle.table.specs.Table.{find as find_of, Puts, reset as reset_to};
-ghost use Rattle.places.specs.declared.Found.TheVariants.{At};
 ghost use Rattle.table.specs.Sound.{Sound};
 ghost use Rattle.table.specs.Reached.{Reached};
-ghost use Rattle.table.specs.Step.{malformed as malformed_of, carried as carried_of, about_one, tick_of, start_at, reset_of, failure as failure_of, granted, grant_at, admitted_at, verdicts_at, request_of, request_verdicts, step_of, verdicts_of, is_timer, settled, fresh as fresh_of, birth_of};
+ghost use Rattle.table.specs.Step.{unless, carried as carried_of, about_one, tick_of, start_at, reset_of, failure as failure_of, granted, grant_at, admitted_at, verdicts_at, request_of, request_verdicts, step_of, verdicts_of, is_timer, settled, fresh as fresh_of, birth_of};
 ghost use Rattle.handover.specs.Events.{about};
 
 use answers::{Outcome, flaw_in, missing, quiet, refusal, said};
-use bearers::{Admission, Judgement, admit, flaw_of, refuse_all};
-use fields::{ALL_OF_NEIGHBOUR, NEW_RECORD, NO_CHANGE, ONE_RECORD, REQUEST, SOONEST_DUE, sort_of};
-use handover::events::{
-    HELD, STARTED, action_of, decide, is_about, is_reset, key_of, message, reset_word,
-};
+use bearers::{Admission, admit, flaw_of, refuse_all};
+use fields::{Sort, sort_of};
+use handover::events::{action_of, decide, is_reset, key_of, reset_word};
 use handover::numbers::{blank, held, preparing};
-use handover::{Decision, Entry};
-use places::{Found, find, is_sooner, issue, vacant};
-use records::{NewId, OldId, Record, SIZE};
+use handover::{Action, Decision, Entry, Reply, State};
+use places::{find, issue, soonest, vacant};
+use records::{Kind, NewId, OldId, Record, SIZE};
 
 // The capacity in units, and TRELOCprep, TX2RELOCoverall and the guard in ms.
 #[derive(Clone, Copy)]
@@ -55,34 +52,26 @@ pub struct Birth {
     pub station: Station,
 }
 
-// The soonest due record so far, and its place; none if it is free.
-#[derive(Clone, Copy)]
-pub struct Best {
-    place: usize,
-    entry: Entry,
-}
-
 // A timer is 1 to 600,000 ms.
 fn is_timer(time: u32) -> bool
     ensures { result ≡ is_timer time }
 {
-    (1 <= time) & (time <= 600_000)
+    matches!(time, 1..=600_000)
 }
 
 // Whether every setting is in range.
 fn is_settled(s: Settings) -> bool
     ensures { result ≡ settled s }
 {
-    (s.capacity <= 1_000_000_000) & is_timer(s.prep) & is_timer(s.overall) & is_timer(s.guard)
+    s.capacity <= 1_000_000_000 && is_timer(s.prep) && is_timer(s.overall) && is_timer(s.guard)
 }
 
 // A fresh station.
 fn fresh(settings: Settings) -> Station
     ensures { result ≡ fresh_of settings }
 {
-    let none = blank();
     Station {
-        entries: [none; 64],
+        entries: [blank(); 64],
         clock: 0,
         last: 4095,
         used: 0,
@@ -98,7 +87,7 @@ impl Station {
     {
         if is_settled(settings) {
             return Birth {
-                reply: 0,
+                reply: Reply::Done as u8,
                 station: fresh(settings),
             };
         }
@@ -109,8 +98,18 @@ impl Station {
             guard: 1,
         };
         Birth {
-            reply: 16,
+            reply: Reply::BadSetting as u8,
             station: fresh(least),
+        }
+    }
+
+    // What is said, of the station as it is.
+    fn answer(self, outcome: Outcome) -> Answer
+        ensures { result ≡ record { outcome = outcome; station = self } }
+    {
+        Answer {
+            outcome,
+            station: self,
         }
     }
 
@@ -120,14 +119,9 @@ impl Station {
         ensures { result ≡ carried_of i d self }
     {
         let before = self.entries[i];
-        let r = d.entry;
-        let m = d.message;
-        self.used = self.used - before.units + r.units;
-        self.entries[i] = r;
-        Answer {
-            outcome: said(d.reply, d.ending, 0, m),
-            station: self,
-        }
+        self.used = self.used - before.units + d.entry.units;
+        self.entries[i] = d.entry;
+        self.answer(said(d.reply, d.ending, 0, d.message))
     }
 
     // An event about one record.
@@ -135,51 +129,27 @@ impl Station {
         requires { Sound self }
         ensures { result ≡ about_one e (find_of (about e) self) self }
     {
-        let key = key_of(e.kind);
-        for i in 0..64 {
-            let r = self.entries[i];
-            if is_about(e, r, key) {
-                return self.carried(i, decide(e, r, self.clock + self.settings.overall as u64));
-            }
-        }
-        Answer {
-            outcome: quiet(2),
-            station: self,
-        }
+        let Some(i) = find(&self.entries, e) else {
+            return self.answer(quiet(Reply::NoRecord as u8));
+        };
+        let deadline = self.clock + self.settings.overall as u64;
+        self.carried(i, decide(e, self.entries[i], deadline))
     }
 
     // A tick: the clock, and the due record with the least deadline, then the least own ID.
+    #[tactic(auto, using(crate::proofs::Placing::due_place))]
     fn tick(mut self, e: Record) -> Answer
         requires { Sound self }
         ensures { result ≡ tick_of e self }
     {
         if e.time < self.clock {
-            return Answer {
-                outcome: quiet(8),
-                station: self,
-            };
-        }
-        let key = key_of(e.kind);
-        let mut best = Best {
-            place: 0,
-            entry: blank(),
-        };
-        for i in 0..64 {
-            let r = self.entries[i];
-            if is_sooner(e, key, r, best.entry) {
-                best = Best { place: i, entry: r };
-            }
+            return self.answer(quiet(Reply::Early as u8));
         }
         self.clock = e.time;
-        if best.entry.state == 0 {
-            return Answer {
-                outcome: quiet(9),
-                station: self,
-            };
-        }
-        let i = best.place;
-        let r = self.entries[i];
-        self.carried(i, decide(e, r, 0))
+        let Some(i) = soonest(&self.entries, e) else {
+            return self.answer(quiet(Reply::NoneDue as u8));
+        };
+        self.carried(i, decide(e, self.entries[i], 0))
     }
 
     // A start, which wants a free place.
@@ -187,42 +157,32 @@ impl Station {
         requires { Sound self }
         ensures { result ≡ start_at e (find_of is_free self) self }
     {
-        let entries = self.entries;
-        let found = vacant(entries);
-        match found {
-            Found::At(i) => self.begin(e, i),
-            Found::Nothing => Answer {
-                outcome: quiet(4),
-                station: self,
-            },
+        match vacant(&self.entries) {
+            Some(i) => self.begin(e, i),
+            None => self.answer(quiet(Reply::Full as u8)),
         }
     }
 
     // A preparing record in a free place, if the table says so.
     fn begin(mut self, e: Record, i: usize) -> Answer
         requires { (i < 64) × Sound self }
-        ensures { result ≡ start_at e (At i) self }
+        ensures { result ≡ start_at e (Some i) self }
     {
-        if !(action_of(e.kind, 0) == STARTED) {
-            return Answer {
-                outcome: quiet(6),
-                station: self,
-            };
+        if action_of(e.kind, State::Free as u8) != Action::Started {
+            return self.answer(quiet(Reply::Untaken as u8));
         }
-        let entries = self.entries;
-        let old = issue(entries, self.last);
+        let old = issue(&self.entries, self.last);
         self.last = old;
         let deadline = self.clock + self.settings.prep as u64;
         self.entries[i] = preparing(e.neighbour, OldId(old), e.first, deadline);
-        Answer {
-            outcome: said(
-                0,
-                0,
-                0,
-                message(1, e.neighbour, OldId(old), NewId(0), e.first, 0, 0),
-            ),
-            station: self,
-        }
+        let request = Record {
+            kind: Kind::Request as u8,
+            neighbour: e.neighbour,
+            old: OldId(old),
+            first: e.first,
+            ..Record::zeros()
+        };
+        self.answer(said(Reply::Done as u8, 0, 0, request))
     }
 
     // All outgoing and held records of a neighbour end.
@@ -231,13 +191,14 @@ impl Station {
         ensures { result ≡ reset_to e self }
     {
         let key = key_of(e.kind);
-        for i in 0..64 {
-            let r = self.entries[i];
-            if is_reset(e, r, key) {
-                self.used = self.used - r.units;
-                self.entries[i] = blank();
+        let mut used = self.used;
+        for r in &mut self.entries {
+            if is_reset(e, *r, key) {
+                used -= r.units;
+                *r = blank();
             }
         }
+        self.used = used;
         self
     }
 
@@ -246,30 +207,27 @@ impl Station {
         requires { Sound self }
         ensures { result ≡ reset_of e self }
     {
-        Answer {
-            outcome: said(
-                0,
-                10,
-                0,
-                message(reset_word(e.kind), e.neighbour, OldId(0), NewId(0), 0, 0, 0),
-            ),
-            station: self.reset(e),
-        }
+        let word = Record {
+            kind: reset_word(e.kind),
+            neighbour: e.neighbour,
+            ..Record::zeros()
+        };
+        let outcome = said(Reply::Done as u8, Action::Reset as u8, 0, word);
+        self.reset(e).answer(outcome)
     }
 
     // A request that is refused: the failure says why.
     fn failure(self, reply: u8, e: Record) -> Answer
         ensures { result ≡ failure_of reply e self }
     {
-        Answer {
-            outcome: said(
-                reply,
-                0,
-                0,
-                message(3, e.neighbour, e.old, NewId(0), 0, 0, reply),
-            ),
-            station: self,
-        }
+        let failure = Record {
+            kind: Kind::Failure as u8,
+            neighbour: e.neighbour,
+            old: e.old,
+            reason: reply,
+            ..Record::zeros()
+        };
+        self.answer(said(reply, 0, 0, failure))
     }
 
     // What was admitted is held in a free place, if it is anything.
@@ -278,13 +236,10 @@ impl Station {
         ensures { result ≡ grant_at e a i self }
     {
         if a.admitted == 0 {
-            return self.failure(5, e);
+            return self.failure(Reply::NoneAdmitted as u8, e);
         }
-        if !(action_of(e.kind, 0) == HELD) {
-            return Answer {
-                outcome: quiet(6),
-                station: self,
-            };
+        if action_of(e.kind, State::Free as u8) != Action::Held {
+            return self.answer(quiet(Reply::Untaken as u8));
         }
         self.hold(e, a, i)
     }
@@ -294,58 +249,53 @@ impl Station {
         requires { (i < 64) × (a.units ≤ self.settings.capacity - self.used) × Sound self }
         ensures { result ≡ granted e a i self }
     {
-        let entries = self.entries;
-        let new = issue(entries, self.last);
-        let old = e.old;
+        let new = issue(&self.entries, self.last);
         self.last = new;
-        self.used = self.used + a.units;
+        self.used += a.units;
         let deadline = self.clock + self.settings.guard as u64;
-        self.entries[i] = held(e.neighbour, old, NewId(new), a.admitted, a.units, deadline);
-        Answer {
-            outcome: said(
-                0,
-                0,
-                a.count,
-                message(2, e.neighbour, old, NewId(new), a.admitted, a.refused, 0),
-            ),
-            station: self,
-        }
+        self.entries[i] = held(
+            e.neighbour,
+            e.old,
+            NewId(new),
+            a.admitted,
+            a.units,
+            deadline,
+        );
+        let acknowledge = Record {
+            kind: Kind::Acknowledge as u8,
+            neighbour: e.neighbour,
+            old: e.old,
+            new: NewId(new),
+            first: a.admitted,
+            second: a.refused,
+            ..Record::zeros()
+        };
+        self.answer(said(Reply::Done as u8, 0, a.count, acknowledge))
     }
 
     // A request that finds the table full.
+    #[tactic(auto, using(bearers::proofs::Flaws::judgeable_exactly))]
     fn full(self, e: Record, bearers: &[u8], verdicts: &mut [u8]) -> Answer
-        ensures { (result ≡ cond (judgeable bearers.now (length verdicts.old)) (failure_of 4 e self) (malformed_of (flaw_of bearers.now (length verdicts.old)) self)) × (verdicts.new ≡ cond (judgeable bearers.now (length verdicts.old)) (all_five (length bearers.now / 32) verdicts.old) verdicts.old) }
+        ensures { (result ≡ unless (flaw_of bearers.now (length verdicts.old)) (failure_of 4 e self) self) × (verdicts.new ≡ cond (judgeable bearers.now (length verdicts.old)) (all_five (length bearers.now / 32) verdicts.old) verdicts.old) }
     {
-        let flaw = flaw_of(bearers, verdicts.len());
-        if !(flaw.reply == 0) {
-            return Answer {
-                outcome: refusal(flaw),
-                station: self,
-            };
+        if let Some(flaw) = flaw_of(bearers, verdicts.len()) {
+            return self.answer(refusal(flaw));
         }
         refuse_all(bearers.len() / SIZE, verdicts);
-        self.failure(4, e)
+        self.failure(Reply::Full as u8, e)
     }
 
     // A request that no held record repeats.
     fn admitted(self, e: Record, bearers: &[u8], verdicts: &mut [u8]) -> Answer
         requires { Sound self }
-        ensures { (result ≡ cond (judgeable bearers.now (length verdicts.old)) (admitted_at e bearers.now (find_of is_free self) self) (malformed_of (flaw_of bearers.now (length verdicts.old)) self)) × (verdicts.new ≡ cond (judgeable bearers.now (length verdicts.old)) (verdicts_at bearers.now (find_of is_free self) self verdicts.old) verdicts.old) }
+        ensures { (result ≡ unless (flaw_of bearers.now (length verdicts.old)) (admitted_at e bearers.now (find_of is_free self) self) self) × (verdicts.new ≡ cond (judgeable bearers.now (length verdicts.old)) (verdicts_at bearers.now (find_of is_free self) self verdicts.old) verdicts.old) }
     {
-        let entries = self.entries;
-        let found = vacant(entries);
-        match found {
-            Found::At(i) => {
-                let judged = admit(bearers, self.settings.capacity - self.used, verdicts);
-                match judged {
-                    Judgement::Given(a) => self.grant(e, a, i),
-                    Judgement::Flawed(flaw) => Answer {
-                        outcome: refusal(flaw),
-                        station: self,
-                    },
-                }
-            }
-            Found::Nothing => self.full(e, bearers, verdicts),
+        let Some(i) = vacant(&self.entries) else {
+            return self.full(e, bearers, verdicts);
+        };
+        match admit(bearers, self.settings.capacity - self.used, verdicts) {
+            Ok(a) => self.grant(e, a, i),
+            Err(flaw) => self.answer(refusal(flaw)),
         }
     }
 
@@ -354,60 +304,31 @@ impl Station {
         requires { (e.number ≤ 256) × Sound self }
         ensures { (result ≡ request_of e bearers.now (length verdicts.old) self) × (verdicts.new ≡ request_verdicts e bearers.now self verdicts.old) }
     {
-        let size = e.number as usize * SIZE;
-        if bearers.len() < size {
-            return Answer {
-                outcome: refusal(missing()),
-                station: self,
-            };
+        let Some(bearers) = bearers.get(..e.number as usize * SIZE) else {
+            return self.answer(refusal(missing()));
+        };
+        if find(&self.entries, e).is_none() {
+            return self.admitted(e, bearers, verdicts);
         }
-        let entries = self.entries;
-        let found = find(entries, e);
-        match found {
-            Found::At(_) => {
-                let flaw = flaw_of(&bearers[..size], verdicts.len());
-                if flaw.reply == 0 {
-                    return Answer {
-                        outcome: quiet(3),
-                        station: self,
-                    };
-                }
-                Answer {
-                    outcome: refusal(flaw),
-                    station: self,
-                }
-            }
-            Found::Nothing => self.admitted(e, &bearers[..size], verdicts),
+        match flaw_of(bearers, verdicts.len()) {
+            Some(flaw) => self.answer(refusal(flaw)),
+            None => self.answer(quiet(Reply::Repeated as u8)),
         }
     }
 
     // One event: the next station, the reply, the ending and the message to send. A request handed in here lacks its bearers.
+    #[tactic(auto, using(crate::proofs::Soundness::sound, crate::proofs::Reaching::still_reached, crate::proofs::Requests::bare_request))]
     pub fn step(mut self, e: Record) -> Answer
         requires { Reached self }
         ensures { (result ≡ step_of self e [] 0) × Reached result.station }
     {
-        let sort = sort_of(e);
-        if sort == ONE_RECORD {
-            return self.about_one(e);
-        }
-        if sort == SOONEST_DUE {
-            return self.tick(e);
-        }
-        if sort == NEW_RECORD {
-            return self.start(e);
-        }
-        if sort == ALL_OF_NEIGHBOUR {
-            return self.reset_by(e);
-        }
-        if sort == NO_CHANGE {
-            return Answer {
-                outcome: quiet(0),
-                station: self,
-            };
-        }
-        Answer {
-            outcome: refusal(flaw_in(e)),
-            station: self,
+        match sort_of(e) {
+            Sort::OneRecord => self.about_one(e),
+            Sort::SoonestDue => self.tick(e),
+            Sort::NewRecord => self.start(e),
+            Sort::AllOfNeighbour => self.reset_by(e),
+            Sort::NoChange => self.answer(quiet(Reply::Done as u8)),
+            Sort::Request | Sort::NoEvent => self.answer(refusal(flaw_in(e))),
         }
     }
 
@@ -417,7 +338,7 @@ impl Station {
         requires { Reached self }
         ensures { (result ≡ step_of self e bearers.now (length verdicts.old)) × (verdicts.new ≡ verdicts_of self e bearers.now verdicts.old) × Reached result.station }
     {
-        if sort_of(e) == REQUEST {
+        if sort_of(e) == Sort::Request {
             return self.requested(e, bearers, verdicts);
         }
         self.step(e)

@@ -1,4 +1,5 @@
 pub mod Examples
 pub mod Once
+pub mod Parts
 pub mod Reasons
-pub mod Tables
+pub mod Table

@@ -1,61 +1,67 @@
 -- Every Cause has a reason of its own, and every reason that has a Cause one of its own.
-use Prim.Native.Nat.{ℕ, ◌<◌}
-use mathlib.Core.Path.{◌≡◌, refl}
-use mathlib.Core.Bool.{Bool, true, ◌&&◌, ◌||◌}
-use borrow.Author.Tests.{eqb-true, ltb-true, ne_eqb}
-use lib.Dec.{eqb, ltb}
-use lib.ListN.{length, get_or}
-use Rattle.laws.proofs.Tests.{both_true, every, below, below_at}
-use Rattle.wire.specs.Causes.{causes, octet_of, reason_of, no_cause, cause_of}
+use Rattle.std.proofs.Common.{◌≡◌, ℕ, ◌<◌, Bool, true, false, ◌&&◌, Option, Some, None, length, refl, ap, eqb, ltb}
+use Rattle.std.specs.Option.{option_map_or}
+use borrow.Author.Tests.{eqb-true, ltb-true}
+use Rattle.laws.proofs.Tests.{both_true, every, below, below_at, clash}
+use Rattle.wire.specs.Causes.{causes, octet_of, reason_in, reason_of, cause_of}
+
+-- whether it is this number
+abbrev gives : ℕ → Option ℕ → Bool
+gives n o = option_map_or (λ m. eqb m n) o false
+
+given : (n : ℕ) (o : Option ℕ) → gives n o ≡ true → o ≡ Some n
+given n None t = clash (cc t)
+given n (Some m) t = ap Some (eqb-true m n t)
 
 -- the table is one to one: an octet's reason has that octet, and a reason's octet that reason; both are bytes
+abbrev there : ℕ → Bool
+there n = option_map_or (λ reason. gives n (cause_of reason) && ltb reason 256) (reason_of n) true
+
+abbrev back : ℕ → Bool
+back n = option_map_or (λ octet. gives n (reason_of octet) && ltb octet 256) (cause_of n) true
+
 abbrev one_to_one : ℕ → Bool
-one_to_one n =
-    (eqb (reason_of n) 0 || eqb (cause_of (reason_of n)) n) && (eqb (cause_of n) no_cause || eqb (reason_of (cause_of n)) n)
-    && ltb (reason_of n) 256 && ltb (cause_of n) 256
+one_to_one n = there n && back n
 
 each_byte : below 256 one_to_one ≡ true
 unfolding reason_of cause_of
 each_byte = refl
 
 module _ (n : ℕ) (byte : n < 256) where
-  parts : ((eqb (reason_of n) 0 || eqb (cause_of (reason_of n)) n) ≡ true) × ((eqb (cause_of n) no_cause || eqb (reason_of (cause_of n)) n) ≡ true) × (ltb (reason_of n) 256 ≡ true) × (ltb (cause_of n) 256 ≡ true)
-  parts =
-      let there = eqb (reason_of n) 0 || eqb (cause_of (reason_of n)) n in
-      let back = eqb (cause_of n) no_cause || eqb (reason_of (cause_of n)) n in
-      let four = both_true (there && back && ltb (reason_of n) 256) (ltb (cause_of n) 256) (below_at 256 one_to_one n each_byte byte) in
-      let three = both_true (there && back) (ltb (reason_of n) 256) four.0 in
-      let two = both_true there back three.0 in
-      (two.0, two.1, three.1, four.1)
+  parts : (there n ≡ true) × (back n ≡ true)
+  parts = both_true (there n) (back n) (below_at 256 one_to_one n each_byte byte)
 
-  -- A Cause is the one of its reason.
-  pub cause_back : (reason_of n ≡ 0 → ⊥) → cause_of (reason_of n) ≡ n
-  cause_back some = eqb-true (cause_of (reason_of n)) n (rw (ne_eqb (reason_of n) 0 some) at parts.0)
+  module _ (reason : ℕ) (is : reason_of n ≡ Some reason) where
+    found : (gives n (cause_of reason) ≡ true) × (ltb reason 256 ≡ true)
+    found = both_true (gives n (cause_of reason)) (ltb reason 256) (rw is at parts.0)
 
-  -- A reason that has a Cause is that Cause's.
-  pub reason_back : (cause_of n ≡ no_cause → ⊥) → reason_of (cause_of n) ≡ n
-  reason_back some = eqb-true (reason_of (cause_of n)) n (rw (ne_eqb (cause_of n) no_cause some) at parts.1)
+    -- A Cause is the one of its reason.
+    pub cause_back : cause_of reason ≡ Some n
+    cause_back = given n (cause_of reason) found.0
 
-  pub reason_byte : reason_of n < 256
-  reason_byte = ltb-true (reason_of n) 256 parts.2
+    pub reason_byte : reason < 256
+    reason_byte = ltb-true reason 256 found.1
 
-  pub cause_byte : cause_of n < 256
-  cause_byte = ltb-true (cause_of n) 256 parts.3
+  module _ (octet : ℕ) (is : cause_of n ≡ Some octet) where
+    told : (gives n (reason_of octet) ≡ true) × (ltb octet 256 ≡ true)
+    told = both_true (gives n (reason_of octet)) (ltb octet 256) (rw is at parts.1)
 
--- The octet that stands for none has no reason.
-pub no_octet : (octet : ℕ) → octet ≡ no_cause → reason_of octet ≡ 0
-unfolding reason_of
-no_octet octet e = rw e
+    -- A reason that has a Cause is that Cause's.
+    pub reason_back : reason_of octet ≡ Some n
+    reason_back = given n (reason_of octet) told.0
+
+    pub cause_byte : octet < 256
+    cause_byte = ltb-true octet 256 told.1
 
 -- Reason 0 has no Cause.
-pub no_reason : (reason : ℕ) → reason ≡ 0 → cause_of reason ≡ no_cause
+pub no_reason : cause_of 0 ≡ None
 unfolding cause_of
-no_reason reason e = rw e
+no_reason = refl
 
 -- Each of the 30 Causes of 9.2.6 has the reason that its row gives.
 pub thirty : length causes ≡ 30
 thirty = refl
 
-pub each_cause : every (λ i cause. eqb (reason_of (octet_of cause)) (get_or cause 2 0) && eqb (cause_of (get_or cause 2 0)) (octet_of cause)) causes ≡ true
+pub each_cause : every (λ i cause. gives (reason_in cause) (reason_of (octet_of cause)) && gives (octet_of cause) (cause_of (reason_in cause))) causes ≡ true
 unfolding reason_of cause_of
 each_cause = refl

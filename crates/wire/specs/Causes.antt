@@ -1,5 +1,5 @@
 -- The Cause of 9.2.6 as an octet, and the reason of a record that stands for it.
-use Rattle.std.specs.Prelude.{ℕ, ◌+◌, ◌*◌, cond, List, [], ◌∷◌, eqb, get_or}
+use Rattle.std.specs.Prelude.{ℕ, ◌+◌, ◌*◌, Option, option_map, List, [], ◌∷◌, find, eqb, get_or}
 
 -- every Cause value, in the order of the ASN.1 (9.3.5): its group, its number there, and the reason that it has here
 abbrev pub causes : List (List ℕ)
@@ -45,21 +45,13 @@ worth group = get_or (1 ∷ 8 ∷ 2 ∷ 2 ∷ []) group 0
 abbrev pub octet_of : List ℕ → ℕ
 octet_of cause = 32 * get_or cause 0 0 + worth (get_or cause 0 0) * get_or cause 1 0
 
--- the reason of an octet; 0, which is no reason, for an octet that is no Cause
-abbrev pub reason_in : List (List ℕ) → ℕ → ℕ
-reason_in [] octet = 0
-reason_in (cause ∷ rest) octet = cond (eqb (octet_of cause) octet) (get_or cause 2 0) (reason_in rest octet)
+abbrev pub reason_in : List ℕ → ℕ
+reason_in cause = get_or cause 2 0
 
-unfoldable pub reason_of : ℕ → ℕ
-reason_of octet = reason_in causes octet
+-- the reason of an octet, if that is a Cause
+unfoldable pub reason_of : ℕ → Option ℕ
+reason_of octet = option_map reason_in (find (λ cause. eqb (octet_of cause) octet) causes)
 
--- the octet of a reason; 255, which is no Cause, for a reason that has none
-abbrev pub no_cause : ℕ
-no_cause = 255
-
-abbrev pub cause_in : List (List ℕ) → ℕ → ℕ
-cause_in [] reason = no_cause
-cause_in (cause ∷ rest) reason = cond (eqb (get_or cause 2 0) reason) (octet_of cause) (cause_in rest reason)
-
-unfoldable pub cause_of : ℕ → ℕ
-cause_of reason = cause_in causes reason
+-- the octet of a reason, if that has a Cause
+unfoldable pub cause_of : ℕ → Option ℕ
+cause_of reason = option_map octet_of (find (λ cause. eqb (reason_in cause) reason) causes)

@@ -1,3 +1,4 @@
 pub mod Causes
+pub mod Numbers
 pub mod Parts
 pub mod Rules

@@ -1,211 +1,222 @@
 // What may stand at each place of a message.
-ghost use Rattle.std.specs.Prelude.{◌≡◌, ◌+◌, ◌≤◌, cond, get_or, length};
-ghost use Rattle.wire.specs.Parts.{none, kind_of, ies_of, row_of, list_end, is_complete, part_of};
-ghost use Rattle.wire.specs.Rules.{allows as allows_of, reply_by, refusal_by, rule_table};
+ghost use Rattle.std.specs.Prelude.{◌≡◌, ◌+◌, ◌≤◌, IfSome, get_or, length};
+ghost use Rattle.wire.specs.Parts.{rule, exactly, any, none, id_ie, cause, code_of, kind_of, ies_of, header, ie_rules, row_of, list_end, is_complete, part_of};
+ghost use Rattle.wire.specs.Numbers.{number_of, form_number};
+ghost use Rattle.wire.specs.Rules.{allows, reply_by, refusal_by};
 
 use crate::causes::reason_of;
-use crate::{Part, Refusal};
+use crate::{Part, Refusal, Reply, Shape};
+use records::Kind;
 
-// The messages, by number.
-pub const RELEASE: u8 = 0;
-
-pub const CANCEL: u8 = 1;
-
-pub const SHORT_CANCEL: u8 = 2;
-
-// An octet that has more to it than its bounds: the choice of the message, a Cause, the second octet of an id.
-const A_CHOICE: u8 = 1;
-
-const A_CAUSE: u8 = 2;
-
-const ID_END: u8 = 3;
-
-// No message is longer, the place after its last IE counted too.
-const ROW: usize = 25;
-
-// By message and place the rule of an octet: the least and the most that it may be, the refusal of another, and what it is.
-const RULES: [[u8; 4]; 75] = [
-    // UE CONTEXT RELEASE
-    [0, 0, 20, 1], // 0 X2AP-PDU, the choice initiatingMessage
-    [5, 5, 18, 0], // 1 procedureCode
-    [64, 64, 20, 0], // 2 criticality: ignore
-    [0, 127, 20, 0], // 3 length of the value
-    [0, 0, 20, 0], // 4 no extension
-    [0, 255, 20, 0], // 5 how many IEs, two octets
-    [0, 255, 20, 0],
-    [0, 0, 19, 0], // 7 Old eNB UE X2AP ID: id
-    [10, 10, 19, 3],
-    [0, 0, 20, 0], // 9 Old eNB UE X2AP ID: criticality reject
-    [2, 2, 20, 0], // 10 Old eNB UE X2AP ID: length of its value
-    [0, 15, 20, 0], // 11 Old eNB UE X2AP ID: value
-    [0, 255, 20, 0],
-    [0, 0, 19, 0], // 13 New eNB UE X2AP ID: id
-    [9, 9, 19, 3],
-    [0, 0, 20, 0], // 15 New eNB UE X2AP ID: criticality reject
-    [2, 2, 20, 0], // 16 New eNB UE X2AP ID: length of its value
-    [0, 15, 20, 0], // 17 New eNB UE X2AP ID: value
-    [0, 255, 20, 0],
-    [1, 0, 19, 0], // 19 no IE more
-    [1, 0, 19, 0],
-    [1, 0, 19, 0],
-    [1, 0, 19, 0],
-    [1, 0, 19, 0],
-    [1, 0, 19, 0],
-    // HANDOVER CANCEL
-    [0, 0, 20, 1], // 0 X2AP-PDU, the choice initiatingMessage
-    [1, 1, 18, 0], // 1 procedureCode
-    [64, 64, 20, 0], // 2 criticality: ignore
-    [0, 127, 20, 0], // 3 length of the value
-    [0, 0, 20, 0], // 4 no extension
-    [0, 255, 20, 0], // 5 how many IEs, two octets
-    [0, 255, 20, 0],
-    [0, 0, 19, 0], // 7 Old eNB UE X2AP ID: id
-    [10, 10, 19, 3],
-    [0, 0, 20, 0], // 9 Old eNB UE X2AP ID: criticality reject
-    [2, 2, 20, 0], // 10 Old eNB UE X2AP ID: length of its value
-    [0, 15, 20, 0], // 11 Old eNB UE X2AP ID: value
-    [0, 255, 20, 0],
-    [0, 0, 19, 0], // 13 New eNB UE X2AP ID: id
-    [9, 9, 19, 3],
-    [64, 64, 20, 0], // 15 New eNB UE X2AP ID: criticality ignore
-    [2, 2, 20, 0], // 16 New eNB UE X2AP ID: length of its value
-    [0, 15, 20, 0], // 17 New eNB UE X2AP ID: value
-    [0, 255, 20, 0],
-    [0, 0, 19, 0], // 19 Cause: id
-    [5, 5, 19, 3],
-    [64, 64, 20, 0], // 21 Cause: criticality ignore
-    [1, 1, 20, 0], // 22 Cause: length of its value
-    [0, 255, 20, 2], // 23 Cause: value
-    [1, 0, 19, 0], // 24 no IE more
-    // HANDOVER CANCEL without a New ID
-    [0, 0, 20, 1], // 0 X2AP-PDU, the choice initiatingMessage
-    [1, 1, 18, 0], // 1 procedureCode
-    [64, 64, 20, 0], // 2 criticality: ignore
-    [0, 127, 20, 0], // 3 length of the value
-    [0, 0, 20, 0], // 4 no extension
-    [0, 255, 20, 0], // 5 how many IEs, two octets
-    [0, 255, 20, 0],
-    [0, 0, 19, 0], // 7 Old eNB UE X2AP ID: id
-    [10, 10, 19, 3],
-    [0, 0, 20, 0], // 9 Old eNB UE X2AP ID: criticality reject
-    [2, 2, 20, 0], // 10 Old eNB UE X2AP ID: length of its value
-    [0, 15, 20, 0], // 11 Old eNB UE X2AP ID: value
-    [0, 255, 20, 0],
-    [0, 0, 19, 0], // 13 Cause: id
-    [5, 5, 19, 3],
-    [64, 64, 20, 0], // 15 Cause: criticality ignore
-    [1, 1, 20, 0], // 16 Cause: length of its value
-    [0, 255, 20, 2], // 17 Cause: value
-    [1, 0, 19, 0], // 18 no IE more
-    [1, 0, 19, 0],
-    [1, 0, 19, 0],
-    [1, 0, 19, 0],
-    [1, 0, 19, 0],
-    [1, 0, 19, 0],
-    [1, 0, 19, 0],
-];
-
-// By message and count of IEs, where the list ends; from four on it is the same.
-const ENDS: [usize; 15] = [7, 13, 19, 20, 20, 7, 13, 19, 24, 25, 7, 13, 18, 19, 19];
-
-// That table: whoever looks up many rules has it built once.
-pub fn table() -> [[u8; 4]; 75]
-    ensures { result ≡ rule_table }
-{
-    RULES
+// What an octet has more to it than its bounds: nothing, or it is the choice of the message, a Cause, or the second octet of an id.
+#[derive(Clone, Copy)]
+enum Form {
+    Plain,
+    Choice,
+    Cause,
+    IdEnd,
 }
 
-// The rule at a place of a message.
-pub fn row_at(table: &[[u8; 4]; 75], shape: u8, place: usize) -> [u8; 4]
-    requires { (shape ≤ 2) × (table.now ≡ rule_table) }
-    ensures { result ≡ get_or (row_of shape) place (none 19) }
-{
-    if place < ROW {
-        let at = shape as usize * ROW + place;
-        return table[at];
+// The criticalities.
+const REJECT: u8 = 0x00;
+
+const IGNORE: u8 = 0x40;
+
+// The rule of an octet: the least and the most that it may be, the refusal of another, and what it is.
+#[derive(Clone, Copy)]
+pub struct Rule {
+    pub least: u8,
+    pub most: u8,
+    pub reply: u8,
+    pub form: u8,
+}
+
+impl Rule {
+    fn new(least: u8, most: u8, reply: Reply, form: Form) -> Rule
+        ensures { result ≡ rule least most (number_of reply) (form_number form) }
+    {
+        Rule {
+            least,
+            most,
+            reply: reply as u8,
+            form: form as u8,
+        }
     }
-    [1, 0, 19, 0]
-}
 
-// Where a list of so many IEs ends.
-pub fn list_end(shape: u8, count: usize) -> usize
-    requires { shape ≤ 2 }
-    ensures { result ≡ list_end shape count }
-{
-    let row = shape as usize * 5;
-    if count < 4 {
-        return ENDS[row + count];
+    fn exactly(octet: u8) -> Rule
+        ensures { result ≡ exactly octet }
+    {
+        Rule::new(octet, octet, Reply::NotAllowed, Form::Plain)
     }
-    ENDS[row + 4]
-}
 
-// How many IEs a message has.
-fn ies(shape: u8) -> usize
-    requires { shape ≤ 2 }
-    ensures { result ≡ length (ies_of shape) }
-{
-    if shape == CANCEL { 3 } else { 2 }
-}
-
-// What is said of a byte after the list: it is left over if the list is complete, or else an IE is missing.
-pub fn beyond(shape: u8, count: usize) -> u8
-    requires { shape ≤ 2 }
-    ensures { result ≡ cond (is_complete shape count) 21 19 }
-{
-    if count == ies(shape) { 21 } else { 19 }
-}
-
-// Whether an octet may stand where a rule does.
-pub fn allows(rule: [u8; 4], octet: u8) -> bool
-    ensures { result ≡ allows_of rule octet }
-{
-    (rule[0] <= octet) & (octet <= rule[1]) & (!(rule[3] == A_CAUSE) | !(reason_of(octet) == 0))
-}
-
-// What is said of an octet that may not.
-fn reply_by(rule: [u8; 4], octet: u8) -> u8
-    ensures { result ≡ reply_by rule octet }
-{
-    if (rule[3] == A_CHOICE) & (32 <= octet) {
-        return 18;
+    fn any() -> Rule
+        ensures { result ≡ any }
+    {
+        Rule::new(0, 255, Reply::NotAllowed, Form::Plain)
     }
-    rule[2]
+
+    // Where no octet may stand.
+    pub fn none(reply: Reply) -> Rule
+        ensures { result ≡ none (number_of reply) }
+    {
+        Rule::new(1, 0, reply, Form::Plain)
+    }
+
+    // Whether an octet may stand where a rule does.
+    pub fn allows(self, octet: u8) -> bool
+        ensures { result ≡ allows self octet }
+    {
+        self.least <= octet
+            && octet <= self.most
+            && (self.form != Form::Cause as u8 || reason_of(octet).is_some())
+    }
+
+    // What is said of an octet that may not.
+    fn reply_by(self, octet: u8) -> u8
+        ensures { result ≡ reply_by self octet }
+    {
+        if self.form == Form::Choice as u8 && 32 <= octet {
+            Reply::Other as u8
+        } else {
+            self.reply
+        }
+    }
+
+    // And where: of an id at its first octet.
+    pub fn refusal_by(self, octet: u8, at: usize) -> Refusal
+        ensures { result ≡ refusal_by self octet at }
+    {
+        let reply = self.reply_by(octet);
+        if self.form == Form::IdEnd as u8 {
+            return Refusal {
+                reply,
+                at: at.saturating_sub(1),
+            };
+        }
+        Refusal { reply, at }
+    }
 }
 
-// And where: of an id at its first octet.
-pub fn refusal_by(rule: [u8; 4], octet: u8, at: usize) -> Refusal
-    ensures { result ≡ refusal_by rule octet at }
+// An octet of an IE whose value is an ID.
+fn of_id(id: u8, criticality: u8, at: usize) -> Rule
+    ensures { result ≡ get_or (ie_rules (id_ie id criticality)) at (none 19) }
 {
-    let reply = reply_by(rule, octet);
-    if (rule[3] == ID_END) & (0 < at) {
-        return Refusal { reply, at: at - 1 };
+    match at {
+        0 => Rule::new(0, 0, Reply::Misplaced, Form::Plain),
+        1 => Rule::new(id, id, Reply::Misplaced, Form::IdEnd),
+        2 => Rule::exactly(criticality),
+        3 => Rule::exactly(2), // length of the value
+        4 => Rule::new(0, 15, Reply::NotAllowed, Form::Plain),
+        5 => Rule::any(),
+        _ => Rule::none(Reply::Misplaced),
     }
-    Refusal { reply, at }
 }
 
-// The kind of a message's record.
-pub fn kind_of(shape: u8) -> u8
-    ensures { result ≡ kind_of shape }
+// An octet of the Cause.
+fn of_cause(at: usize) -> Rule
+    ensures { result ≡ get_or (ie_rules cause) at (none 19) }
 {
-    if shape == RELEASE { 5 } else { 6 }
+    match at {
+        0 => Rule::new(0, 0, Reply::Misplaced, Form::Plain),
+        1 => Rule::new(5, 5, Reply::Misplaced, Form::IdEnd),
+        2 => Rule::exactly(IGNORE),
+        3 => Rule::exactly(1), // length of the value
+        4 => Rule::new(0, 255, Reply::NotAllowed, Form::Cause),
+        _ => Rule::none(Reply::Misplaced),
+    }
 }
 
-// The part of a message that is the value of an IE, by its id.
-pub fn part_of(shape: u8, id: u16) -> Part
-    requires { shape ≤ 2 }
-    ensures { (result ≡ part_of shape id) × (result.at + result.size ≤ 24) }
-{
-    if id == 10 {
-        return Part { at: 11, size: 2 };
+impl Shape {
+    // The kind of a message's record.
+    pub fn kind(self) -> u8
+        ensures { result ≡ kind_of self }
+    {
+        match self {
+            Shape::Release => Kind::ContextRelease as u8,
+            Shape::Cancel | Shape::ShortCancel => Kind::HandoverCancel as u8,
+        }
     }
-    if (id == 9) & !(shape == SHORT_CANCEL) {
-        return Part { at: 17, size: 2 };
+
+    fn code(self) -> u8
+        ensures { result ≡ code_of self }
+    {
+        match self {
+            Shape::Release => 5,
+            Shape::Cancel | Shape::ShortCancel => 1,
+        }
     }
-    if (id == 5) & (shape == CANCEL) {
-        return Part { at: 23, size: 1 };
+
+    // An octet before the first IE.
+    fn header(self, at: usize) -> Rule
+        ensures { result ≡ get_or (header self) at (none 19) }
+    {
+        match at {
+            0 => Rule::new(0, 0, Reply::NotAllowed, Form::Choice), // X2AP-PDU, the choice initiatingMessage
+            1 => Rule::new(self.code(), self.code(), Reply::Other, Form::Plain),
+            2 => Rule::exactly(IGNORE),
+            3 => Rule::new(0, 127, Reply::NotAllowed, Form::Plain), // length of the value
+            4 => Rule::exactly(0), // no extension
+            5 | 6 => Rule::any(), // how many IEs
+            _ => Rule::none(Reply::Misplaced),
+        }
     }
-    if (id == 5) & (shape == SHORT_CANCEL) {
-        return Part { at: 17, size: 1 };
+
+    // An octet after the Old ID.
+    fn rest(self, at: usize) -> Rule
+        ensures { result ≡ get_or (row_of self) (13 + at) (none 19) }
+    {
+        match self {
+            Shape::Release => of_id(9, REJECT, at),
+            Shape::Cancel if at < 6 => of_id(9, IGNORE, at),
+            Shape::Cancel => of_cause(at - 6),
+            Shape::ShortCancel => of_cause(at),
+        }
     }
-    Part { at: 0, size: 0 }
+
+    // The rule at a place.
+    pub fn rule_at(self, place: usize) -> Rule
+        ensures { result ≡ get_or (row_of self) place (none 19) }
+    {
+        match place {
+            0..=6 => self.header(place),
+            7..=12 => of_id(10, REJECT, place - 7),
+            _ => self.rest(place - 13),
+        }
+    }
+
+    // Where a list of so many IEs ends; from four on it is the same.
+    pub fn list_end(self, count: usize) -> usize
+        ensures { result ≡ list_end self count }
+    {
+        let ends = match self {
+            Shape::Release => [7, 13, 19, 20, 20],
+            Shape::Cancel => [7, 13, 19, 24, 25],
+            Shape::ShortCancel => [7, 13, 18, 19, 19],
+        };
+        ends[count.min(4)]
+    }
+
+    // Whether so many IEs are all.
+    pub fn is_complete(self, count: usize) -> bool
+        ensures { result ≡ is_complete self count }
+    {
+        match self {
+            Shape::Cancel => count == 3,
+            Shape::Release | Shape::ShortCancel => count == 2,
+        }
+    }
+
+    // The part of a message that is the value of an IE, by its id.
+    pub fn part_of(self, id: u16) -> Option<Part>
+        ensures part { result ≡ part_of self id }
+        ensures inside { IfSome result (λ p. p.at + p.size ≤ 24) }
+    {
+        match (self, id) {
+            (_, 10) => Some(Part { at: 11, size: 2 }),
+            (Shape::Release | Shape::Cancel, 9) => Some(Part { at: 17, size: 2 }),
+            (Shape::Cancel, 5) => Some(Part { at: 23, size: 1 }),
+            (Shape::ShortCancel, 5) => Some(Part { at: 17, size: 1 }),
+            _ => None,
+        }
+    }
 }

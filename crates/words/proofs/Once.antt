@@ -3,12 +3,13 @@ use Prim.Native.Nat.{ℕ}
 use mathlib.Core.Path.{◌≡◌, sym, ◌∙◌}
 use mathlib.Core.Bool.{Bool}
 use mathlib.Core.List.{List}
+use Rattle.std.specs.Prelude.{Option}
 use Rattle.records.specs.declared.Record.{Record}
 use Rattle.words.specs.Values.{is_set, values_of, record_from}
 use Rattle.words.specs.Words.{place_of}
 
--- A text has one place among the words.
-pub place_once : (text : List ℕ) (a b : ℕ) → a ≡ place_of text → b ≡ place_of text → a ≡ b
+-- A text has one place among the words, or none.
+pub place_once : (text : List ℕ) (a b : Option ℕ) → a ≡ place_of text → b ≡ place_of text → a ≡ b
 place_once text a b p q = p ∙ sym q
 
 -- Whether a field is a set has one answer.

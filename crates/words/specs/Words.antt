@@ -1,12 +1,7 @@
 -- The words of the text form.
-use Rattle.std.specs.Prelude.{ℕ, suc, Bool, true, false, cond, ◌&&◌, List, [], ◌∷◌, eqb, get_or}
-
--- whether two texts are the same
-unfoldable pub is_same : List ℕ → List ℕ → Bool
-is_same [] [] = true
-is_same [] (b ∷ bs) = false
-is_same (a ∷ rest) [] = false
-is_same (a ∷ rest) (b ∷ bs) = eqb a b && is_same rest bs
+use Rattle.std.specs.Prelude.{ℕ, List, [], ◌∷◌, eqb, get_or, Option, position}
+use Rattle.std.specs.List.{before_first}
+use lib.Pointwise.{pointwise}
 
 -- every word, with spaces after it, in ASCII
 abbrev pub words : List (List ℕ)
@@ -69,18 +64,13 @@ raw_word = 36
 abbrev pub word_room : ℕ
 word_room = 16
 
--- the first place where a text stands
-unfoldable pub place_in : List (List ℕ) → List ℕ → ℕ
-place_in [] text = 0
-place_in (w ∷ ws) text = cond (is_same w text) 0 (suc (place_in ws text))
-
-abbrev pub place_of : List ℕ → ℕ
-place_of text = place_in words text
+-- the first place where a text stands among the words
+unfoldable pub place_of : List ℕ → Option ℕ
+place_of text = position (λ (word : List ℕ). pointwise eqb word text) words
 
 -- a text up to its first space
 unfoldable pub trimmed : List ℕ → List ℕ
-trimmed [] = []
-trimmed (b ∷ bs) = cond (eqb b 32) [] (b ∷ trimmed bs)
+trimmed text = before_first (λ (b : ℕ). eqb b 32) text
 
 -- a word by its place
 unfoldable pub word_at : ℕ → List ℕ

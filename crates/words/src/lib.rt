@@ -3,9 +3,10 @@
 
 pub mod values;
 
-ghost use Rattle.std.specs.Prelude.{◌≡◌, ◌+◌, ◌≤◌, cond, length};
+ghost use Rattle.std.specs.Prelude.{◌≡◌, ◌+◌, ◌≤◌, ◌==◌, length};
+ghost use Rattle.std.specs.List.{position_or_len};
 ghost use Rattle.buffers.specs.Buffers.{Writes, fitting};
-ghost use Rattle.words.specs.Words.{is_same, word_room, place_of, trimmed, word_at};
+ghost use Rattle.words.specs.Words.{word_room, place_of, trimmed, word_at};
 
 use buffers::has_room;
 
@@ -25,7 +26,7 @@ pub const RAW: usize = 36;
 const ROOM: usize = 16;
 
 // Every word, with spaces after it.
-const WORDS: [[u8; ROOM]; 37] = [
+static WORDS: [[u8; ROOM]; 37] = [
     *b"kind            ",
     *b"request         ",
     *b"acknowledge     ",
@@ -65,59 +66,43 @@ const WORDS: [[u8; ROOM]; 37] = [
     *b"raw             ",
 ];
 
-// Whether two texts are the same.
-fn is_same(a: [u8; 16], b: [u8; 16]) -> bool
-    ensures { result ≡ is_same a b }
-{
-    let mut same = true;
-    for i in 0..16usize {
-        same = same & (a[i] == b[i]);
-    }
-    same
-}
-
-// One of two numbers.
-fn either(test: bool, a: usize, b: usize) -> usize
-    ensures { result ≡ cond test a b }
-{
-    if test { a } else { b }
-}
-
-// The place of a text among the words; 37 where it is none of them.
-pub fn place_of(text: [u8; 16]) -> usize
+// The place of a text among the words.
+#[tactic(auto, unfolding(crate::specs::Words::place_of))]
+pub fn place_of(text: [u8; 16]) -> Option<usize>
     ensures { result ≡ place_of text }
 {
-    let mut found: usize = 37;
-    let mut i: usize = 37;
-    while 0 < i {
-        i -= 1;
-        found = either(is_same(WORDS[i], text), i, found);
-    }
-    found
+    WORDS.iter().position(|word| *word == text)
 }
 
-// Writes a word from a place on, if the buffer has room for the longest, and answers the next place.
-pub fn write_word(word: usize, out: &mut [u8], at: usize) -> usize
-    ensures { Writes out.old out.new at (fitting (at + word_room) out.old (word_at word)) result × (result ≤ at + word_room) }
+// How many bytes a text has before its first space.
+fn size_of(text: &[u8]) -> usize
+    ensures size { result ≡ position_or_len (λ b. b == 32) text.now }
+    ensures within { result ≤ length text.now }
 {
-    if RAW < word {
-        return at;
-    }
-    if !has_room(out.len(), at, ROOM) {
-        return at;
-    }
-    write_trimmed(WORDS[word], out, at)
+    text.iter().take_while(|byte| **byte != b' ').count()
 }
 
 // Writes a text without the spaces after it.
-fn write_trimmed(text: [u8; 16], out: &mut [u8], at: usize) -> usize
+fn write_trimmed(text: &[u8; ROOM], out: &mut [u8], at: usize) -> usize
     requires { at + word_room ≤ length out.old }
-    ensures { Writes out.old out.new at (trimmed text) result × (result ≤ at + word_room) }
+    ensures { Writes out.old out.new at (trimmed text.now) result × (result ≤ at + word_room) }
 {
-    let mut i: usize = 0;
-    while i < 16 && text[i] != 32 {
-        out[at + i] = text[i];
-        i += 1;
+    let size = size_of(text);
+    let next = at + size;
+    out[at..next].copy_from_slice(&text[..size]);
+    next
+}
+
+// Writes a word from a place on, if the buffer has room for the longest, and answers the next place.
+#[tactic(auto, unfolding(crate::specs::Words::word_at))]
+pub fn write_word(word: usize, out: &mut [u8], at: usize) -> usize
+    ensures { Writes out.old out.new at (fitting (at + word_room) out.old (word_at word)) result × (result ≤ at + word_room) }
+{
+    if !has_room(out.len(), at, ROOM) {
+        return at;
     }
-    at + i
+    match WORDS.get(word) {
+        Some(text) => write_trimmed(text, out, at),
+        None => at,
+    }
 }

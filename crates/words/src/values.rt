@@ -8,31 +8,29 @@ use records::{NewId, OldId, Record};
 pub fn is_set(field: usize) -> bool
     ensures { result ≡ is_set field }
 {
-    (field == 4) | (field == 5)
+    matches!(field, 4 | 5)
 }
 
 // The fields of a record, in order.
 pub fn values_of(r: Record) -> [u64; 15]
     ensures { result ≡ values_of r }
 {
-    let old = r.old;
-    let new = r.new;
     [
-        r.kind as u64,
-        r.neighbour as u64,
-        old.0 as u64,
-        new.0 as u64,
-        r.first as u64,
-        r.second as u64,
-        r.reason as u64,
-        r.byte11 as u64,
-        r.number as u64,
+        u64::from(r.kind),
+        u64::from(r.neighbour),
+        u64::from(r.old.0),
+        u64::from(r.new.0),
+        u64::from(r.first),
+        u64::from(r.second),
+        u64::from(r.reason),
+        u64::from(r.byte11),
+        u64::from(r.number),
         r.time,
-        r.erab as u64,
-        r.qci as u64,
-        r.priority as u64,
-        r.flags as u64,
-        r.bytes28 as u64,
+        u64::from(r.erab),
+        u64::from(r.qci),
+        u64::from(r.priority),
+        u64::from(r.flags),
+        u64::from(r.bytes28),
     ]
 }
 
@@ -40,21 +38,38 @@ pub fn values_of(r: Record) -> [u64; 15]
 pub fn record_from(values: [u64; 15]) -> Record
     ensures { result ≡ record_from values }
 {
+    let [
+        kind,
+        neighbour,
+        old,
+        new,
+        first,
+        second,
+        reason,
+        byte11,
+        number,
+        time,
+        erab,
+        qci,
+        priority,
+        flags,
+        bytes28,
+    ] = values;
     Record {
-        kind: (values[0] % 256) as u8,
-        neighbour: (values[1] % 256) as u8,
-        old: OldId((values[2] % 65536) as u16),
-        new: NewId((values[3] % 65536) as u16),
-        first: (values[4] % 65536) as u16,
-        second: (values[5] % 65536) as u16,
-        reason: (values[6] % 256) as u8,
-        byte11: (values[7] % 256) as u8,
-        number: (values[8] % 4294967296) as u32,
-        time: values[9],
-        erab: (values[10] % 256) as u8,
-        qci: (values[11] % 256) as u8,
-        priority: (values[12] % 256) as u8,
-        flags: (values[13] % 256) as u8,
-        bytes28: (values[14] % 4294967296) as u32,
+        kind: (kind % 256) as u8,
+        neighbour: (neighbour % 256) as u8,
+        old: OldId((old % 65536) as u16),
+        new: NewId((new % 65536) as u16),
+        first: (first % 65536) as u16,
+        second: (second % 65536) as u16,
+        reason: (reason % 256) as u8,
+        byte11: (byte11 % 256) as u8,
+        number: (number % 4294967296) as u32,
+        time,
+        erab: (erab % 256) as u8,
+        qci: (qci % 256) as u8,
+        priority: (priority % 256) as u8,
+        flags: (flags % 256) as u8,
+        bytes28: (bytes28 % 4294967296) as u32,
     }
 }

@@ -1,50 +1,59 @@
 -- What a record of the two kinds has in which nothing is wrong.
-use Prim.Native.Nat.{ℕ, zero, suc, ◌+◌, ◌≤◌, ◌<◌}
-use mathlib.Core.Path.{◌≡◌, refl, sym, ap, ◌∙◌}
-use mathlib.Core.Bool.{true, false, cond}
-use mathlib.Core.List.{List, [], ◌∷◌}
-use mathlib.Core.Logic.{◌⊎◌, inl, inr, ⊎_elim}
-use native.Mathlib.Omega.{arith}
-use borrow.Author.Tests.{leb-true, ltb-true, eqb-true, eq-eqb}
-use lib.Dec.{leb, ltb, eqb}
-use lib.ListN.{length, get_or}
-use Rattle.laws.proofs.Tests.{both_true, either_true, on_false}
+use Rattle.std.proofs.Common.{◌≡◌, ℕ, ◌≤◌, ◌<◌, Bool, true, false, ◌||◌, ◌⊎◌, inl, inr, None, is_none, length, get_or, leb, ltb, eqb, refl, sym, ap, ◌∙◌, arith}
+use mathlib.Core.Logic.{⊎_elim}
+use borrow.Author.Tests.{leb-true, ltb-true, eqb-true}
+use Rattle.laws.proofs.Tests.{either_true, below, below_at}
 use Rattle.records.specs.declared.Record.{Record}
-use Rattle.fields.specs.declared.Fault.{Fault}
-use Rattle.fields.specs.Fields.{no_event, fits, limit_of, sort_of, values_of, fault_in, fault_of, all_fit}
-use Rattle.fields.proofs.Faults.{fit_exactly}
-use Rattle.reading.proofs.RoundTrip.{Rest}
+use Rattle.fields.specs.declared.Sort.TheVariants.{NoEvent}
+use Rattle.fields.specs.declared.kinds.Limit.{Limit}
+use Rattle.fields.specs.declared.kinds.Limit.TheVariants.{Unused}
+use Rattle.fields.specs.Fields.{same_sort, same_limit, fits, limits_of, sort_of, values_of, fault_in, fault_of}
+use Rattle.fields.proofs.Agreeing.{limit_true}
+use Rattle.fields.proofs.Faults.{fit_exactly, each_fits}
+use Rattle.reading.proofs.RoundTrip.{carried}
 
--- each of some fields that fit their limits fits its own
-each_fits : (limit : ℕ → ℕ) (k : ℕ) (vs : List ℕ) → all_fit limit k vs ≡ true → (j : ℕ) → j < length vs → fits (limit (k + j)) (get_or vs j 0) ≡ true
-each_fits limit k [] t j h = absurd (omega arith)
-each_fits limit k (v ∷ vs) t zero h =
-    ap (λ (i : ℕ). fits (limit i) v) (omega arith) ∙ (both_true (fits (limit k) v) (all_fit limit (suc k) vs) t).0
-each_fits limit k (v ∷ vs) t (suc j) h =
-    ap (λ (i : ℕ). fits (limit i) (get_or vs j 0)) (omega arith) ∙ each_fits limit (suc k) vs (both_true (fits (limit k) v) (all_fit limit (suc k) vs) t).1 j (omega arith)
+-- the fields that both kinds use: neighbour, Old ID, New ID and reason
+abbrev used : ℕ → Bool
+used j = ltb j 3 || eqb j 5
 
-module _ (r : Record) (kind : ℕ) (is : r.kind ≡ kind) (event : eqb (sort_of kind) no_event ≡ false) where
-  -- There is no fault in it exactly if its fields fit the limits of its kind.
-  pub fault_is : fault_of r ≡ fault_in (limit_of kind) (values_of r)
-  fault_is =
-      ap (λ (k : ℕ). cond (eqb (sort_of k) no_event) (record { reply = 10; offset = 0 }) (fault_in (limit_of k) (values_of r))) is
-      ∙ on_false (eqb (sort_of kind) no_event) (record { reply = 10; offset = 0 }) (fault_in (limit_of kind) (values_of r)) event
+abbrev others_unused : ℕ → ℕ → Bool
+others_unused kind j = used j || same_limit (get_or (limits_of kind) j Unused) Unused
 
-  pub fields_fit : (fault_of r).reply ≡ 0 → (j : ℕ) → ltb j 14 ≡ true → fits (limit_of kind j) (get_or (values_of r) j 0) ≡ true
-  fields_fit none j inside =
-      let reply = ap (λ (f : Fault). f.reply) (sym fault_is) ∙ none in
-      let all = fit_exactly (limit_of kind) (values_of r) refl ∙ eq-eqb (fault_in (limit_of kind) (values_of r)).reply 0 reply in
-      ap (λ (i : ℕ). fits (limit_of kind i) (get_or (values_of r) j 0)) (omega arith) ∙ each_fits (limit_of kind) 0 (values_of r) all j (ltb-true j 14 inside)
+module _ (r : Record) (none : fault_of r ≡ None) (kind : ℕ) (is : r.kind ≡ kind) (event : same_sort (sort_of kind) NoEvent ≡ false) (fourteen : length (limits_of kind) ≡ 14) where
+  -- Each of its fields fits the limit of its kind.
+  field_fits : (j : ℕ) → ltb j 14 ≡ true → fits (get_or (limits_of kind) j Unused) (get_or (values_of r) j 0) ≡ true
+  field_fits j inside =
+      let clean : fault_in (limits_of kind) (values_of r) ≡ None = rw (is, event) at none in
+      let here = ltb-true j 14 inside in
+      each_fits (limits_of kind) (values_of r) (fit_exactly (limits_of kind) (values_of r) ∙ ap is_none clean) j (omega (arith, here)) here
 
--- a field that the kind does not use
-zero_fits : (value : ℕ) → leb value 0 ≡ true → value ≡ 0
-zero_fits value t = omega (arith, leb-true value 0 t)
+  module _ (others : below 14 (others_unused kind) ≡ true) where
+    zero : (j : ℕ) → ltb j 14 ≡ true → used j ≡ false → 0 ≡ get_or (values_of r) j 0
+    zero j inside other =
+        let unused = limit_true (get_or (limits_of kind) j Unused) Unused (rw other at (below_at 14 (others_unused kind) j others (ltb-true j 14 inside))) in
+        let small : leb (get_or (values_of r) j 0) 0 ≡ true = ap (λ (l : Limit). fits l (get_or (values_of r) j 0)) (sym unused) ∙ field_fits j inside in
+        omega (arith, leb-true (get_or (values_of r) j 0) 0 small)
 
-module _ (r : Record) (none : (fault_of r).reply ≡ 0) where
+    rest : carried r ≡ r
+    rest =
+        λ i. record r {
+          first = zero 3 refl refl i;
+          second = zero 4 refl refl i;
+          byte11 = zero 6 refl refl i;
+          number = zero 7 refl refl i;
+          time = zero 8 refl refl i;
+          erab = zero 9 refl refl i;
+          qci = zero 10 refl refl i;
+          priority = zero 11 refl refl i;
+          flags = zero 12 refl refl i;
+          bytes28 = zero 13 refl refl i;
+        }
+
+module _ (r : Record) (none : fault_of r ≡ None) where
   -- A release.
   module _ (is : r.kind ≡ 5) where
-    f5 : (j : ℕ) → ltb j 14 ≡ true → fits (limit_of 5 j) (get_or (values_of r) j 0) ≡ true
-    f5 = fields_fit r 5 is refl none
+    f5 : (j : ℕ) → ltb j 14 ≡ true → fits (get_or (limits_of 5) j Unused) (get_or (values_of r) j 0) ≡ true
+    f5 = field_fits r none 5 is refl refl
 
     pub release_neighbour : r.neighbour ≤ 31
     release_neighbour = leb-true r.neighbour 31 (f5 0 refl)
@@ -56,27 +65,15 @@ module _ (r : Record) (none : (fault_of r).reply ≡ 0) where
     release_new = leb-true r.new.0 4095 (f5 2 refl)
 
     pub release_reason : r.reason ≡ 0
-    release_reason = zero_fits r.reason (f5 5 refl)
+    release_reason = omega (arith, leb-true r.reason 0 (f5 5 refl))
 
-    pub release_rest : Rest r
-    release_rest =
-        record {
-          first = zero_fits r.first (f5 3 refl);
-          second = zero_fits r.second (f5 4 refl);
-          byte11 = zero_fits r.byte11 (f5 6 refl);
-          number = zero_fits r.number (f5 7 refl);
-          time = zero_fits r.time (f5 8 refl);
-          erab = zero_fits r.erab (f5 9 refl);
-          qci = zero_fits r.qci (f5 10 refl);
-          priority = zero_fits r.priority (f5 11 refl);
-          flags = zero_fits r.flags (f5 12 refl);
-          bytes28 = zero_fits r.bytes28 (f5 13 refl);
-        }
+    pub release_rest : carried r ≡ r
+    release_rest = rest r none 5 is refl refl refl
 
   -- A cancel.
   module _ (is : r.kind ≡ 6) where
-    f6 : (j : ℕ) → ltb j 14 ≡ true → fits (limit_of 6 j) (get_or (values_of r) j 0) ≡ true
-    f6 = fields_fit r 6 is refl none
+    f6 : (j : ℕ) → ltb j 14 ≡ true → fits (get_or (limits_of 6) j Unused) (get_or (values_of r) j 0) ≡ true
+    f6 = field_fits r none 6 is refl refl
 
     pub cancel_neighbour : r.neighbour ≤ 31
     cancel_neighbour = leb-true r.neighbour 31 (f6 0 refl)
@@ -90,17 +87,5 @@ module _ (r : Record) (none : (fault_of r).reply ≡ 0) where
     pub cancel_reason : r.reason < 256
     cancel_reason = omega (arith, leb-true r.reason 255 (f6 5 refl))
 
-    pub cancel_rest : Rest r
-    cancel_rest =
-        record {
-          first = zero_fits r.first (f6 3 refl);
-          second = zero_fits r.second (f6 4 refl);
-          byte11 = zero_fits r.byte11 (f6 6 refl);
-          number = zero_fits r.number (f6 7 refl);
-          time = zero_fits r.time (f6 8 refl);
-          erab = zero_fits r.erab (f6 9 refl);
-          qci = zero_fits r.qci (f6 10 refl);
-          priority = zero_fits r.priority (f6 11 refl);
-          flags = zero_fits r.flags (f6 12 refl);
-          bytes28 = zero_fits r.bytes28 (f6 13 refl);
-        }
+    pub cancel_rest : carried r ≡ r
+    cancel_rest = rest r none 6 is refl refl refl

@@ -2,5 +2,4 @@ pub mod Again
 pub mod Back
 pub mod Formed
 pub mod Once
-pub mod Putting
 pub mod Refusing

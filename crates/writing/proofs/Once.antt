@@ -1,14 +1,11 @@
 -- Two results that satisfy a contract are equal.
-use mathlib.Core.Path.{◌≡◌, sym, ◌∙◌}
-use mathlib.Core.List.{List}
-use Prim.Native.Nat.{ℕ}
-use lib.ListN.{length}
+use Rattle.std.proofs.Common.{◌≡◌, ℕ, Result, List, length, sym, ◌∙◌}
 use Rattle.records.specs.declared.Record.{Record}
+use Rattle.wire.specs.declared.Refusal.{Refusal}
 use Rattle.writing.specs.Writing.{written_of, left_in}
-use Rattle.writing.specs.declared.Written.{Written}
 
 -- Of the same record and buffer there is one answer, and one buffer afterwards.
-pub write_once : (r : Record) (buffer : List ℕ) (a b : Written) (v w : List ℕ)
+pub write_once : (r : Record) (buffer : List ℕ) (a b : Result ℕ Refusal) (v w : List ℕ)
     → (a ≡ written_of r (length buffer)) × (v ≡ left_in r buffer)
     → (b ≡ written_of r (length buffer)) × (w ≡ left_in r buffer)
     → (a ≡ b) × (v ≡ w)

@@ -1,153 +1,105 @@
 // UE CONTEXT RELEASE and HANDOVER CANCEL in aligned PER: a record written as its message.
 #![tactic(auto)]
 
-ghost use Rattle.std.specs.Prelude.{◌≡◌, ◌++◌, ◌-◌, ◌≤◌, length, take, drop, replicate};
-ghost use Rattle.wire.specs.Parts.{message_octets, octets_of};
-ghost use Rattle.writing.specs.Writing.{is_carried, has_cause, size_of, padded, refusal_for, written_of, left_in};
+ghost use Rattle.std.specs.Prelude.{◌≡◌, length};
+ghost use Rattle.wire.specs.Parts.{shape_for};
+ghost use Rattle.writing.specs.Writing.{judged, cause_in, put_answer, put_left, written_of, left_in};
 
 use fields::fault_of;
-use records::Record;
-use wire::Refusal;
-use wire::causes::{NO_CAUSE, cause_of};
+use records::{Kind, Record};
+use wire::causes::cause_of;
+use wire::{Refusal, Reply, Shape};
 
-// What was written: a message of so many octets, or why there is none.
-#[derive(Clone, Copy)]
-pub enum Written {
-    Message(usize),
-    Refused(Refusal),
-}
-
-// No message is longer.
-const MOST: usize = 24;
-
-// Whether a record is of one of the two kinds.
-fn is_carried(r: Record) -> bool
-    ensures { result ≡ is_carried r }
+// Whether a record is of one of the two kinds, and well formed.
+#[tactic(auto, unfolding(crate::specs::Writing::judged))]
+fn judged(r: Record) -> Result<(), Refusal>
+    ensures { result ≡ judged r }
 {
-    (r.kind == 5) | (r.kind == 6)
-}
-
-// Whether the reason of a cancel has a Cause.
-fn has_cause(r: Record) -> bool
-    ensures { result ≡ has_cause r }
-{
-    (r.kind == 5) | !(cause_of(r.reason) == NO_CAUSE)
-}
-
-// How many octets a record's message has.
-fn size_of(r: Record) -> usize
-    ensures { (result ≡ size_of r) × (result ≤ 24) }
-{
-    if r.kind == 5 {
-        return 19;
+    if r.kind != Kind::ContextRelease as u8 && r.kind != Kind::HandoverCancel as u8 {
+        return Err(Refusal::new(Reply::Other, 0));
     }
-    if r.new.0 == 65535 {
-        return 18;
-    }
-    24
-}
-
-// Why a record is not written into so much room; 0 if it is.
-fn refusal_of(r: Record, room: usize) -> Refusal
-    ensures { result ≡ refusal_for r room }
-{
-    if !is_carried(r) {
-        return Refusal { reply: 18, at: 0 };
-    }
-    let fault = fault_of(r);
-    if fault.reply != 0 {
-        return Refusal {
+    if let Some(fault) = fault_of(r) {
+        return Err(Refusal {
             reply: fault.reply,
             at: fault.offset as usize,
-        };
+        });
     }
-    if !has_cause(r) {
-        return Refusal { reply: 20, at: 0 };
-    }
-    if room < size_of(r) {
-        return Refusal { reply: 15, at: 0 };
-    }
-    Refusal { reply: 0, at: 0 }
+    Ok(())
 }
 
-// A release, a cancel, and a cancel without a New ID, with zeros where the IDs and the Cause come, and after the last octet.
-const RELEASE: [u8; MOST] =
-    *b"\x00\x05\x40\x0f\x00\x00\x02\x00\x0a\x00\x02\x00\x00\x00\x09\x00\x02\x00\x00\x00\x00\x00\x00\x00";
-
-const CANCEL: [u8; MOST] =
-    *b"\x00\x01\x40\x14\x00\x00\x03\x00\x0a\x00\x02\x00\x00\x00\x09\x40\x02\x00\x00\x00\x05\x40\x01\x00";
-
-const SHORT_CANCEL: [u8; MOST] =
-    *b"\x00\x01\x40\x0e\x00\x00\x02\x00\x0a\x00\x02\x00\x00\x00\x05\x40\x01\x00\x00\x00\x00\x00\x00\x00";
-
-// The octets of a release, and zeros after them.
-fn release(r: Record) -> [u8; MOST]
-    ensures { result ≡ padded (message_octets 0 r) }
+// The message of a record of one of the two kinds.
+fn shape_for(r: Record) -> Shape
+    ensures { result ≡ shape_for r }
 {
-    let mut octets = RELEASE;
-    octets[11] = (r.old.0 / 256) as u8;
-    octets[12] = (r.old.0 % 256) as u8;
-    octets[17] = (r.new.0 / 256) as u8;
-    octets[18] = (r.new.0 % 256) as u8;
-    octets
-}
-
-// Those of a cancel.
-fn cancel(r: Record) -> [u8; MOST]
-    ensures { result ≡ padded (message_octets 1 r) }
-{
-    let mut octets = CANCEL;
-    octets[11] = (r.old.0 / 256) as u8;
-    octets[12] = (r.old.0 % 256) as u8;
-    octets[17] = (r.new.0 / 256) as u8;
-    octets[18] = (r.new.0 % 256) as u8;
-    octets[23] = cause_of(r.reason);
-    octets
-}
-
-// Those of a cancel without a New ID.
-fn short_cancel(r: Record) -> [u8; MOST]
-    ensures { result ≡ padded (message_octets 2 r) }
-{
-    let mut octets = SHORT_CANCEL;
-    octets[11] = (r.old.0 / 256) as u8;
-    octets[12] = (r.old.0 % 256) as u8;
-    octets[17] = cause_of(r.reason);
-    octets
-}
-
-// The octets of a record's message, and zeros after them.
-fn octets_of(r: Record) -> [u8; MOST]
-    ensures { result ≡ padded (octets_of r) }
-{
-    if r.kind == 5 {
-        return release(r);
+    if r.kind == Kind::ContextRelease as u8 {
+        return Shape::Release;
     }
     if r.new.0 == 65535 {
-        return short_cancel(r);
+        return Shape::ShortCancel;
     }
-    cancel(r)
+    Shape::Cancel
 }
 
-// Puts so many octets at the front of a buffer.
-fn put(octets: [u8; MOST], size: usize, buffer: &mut [u8])
-    requires { (size ≤ 24) × (size ≤ length buffer.old) }
-    ensures { buffer.new ≡ take size octets ++ drop size buffer.old }
+// The Cause of a cancel.
+fn cause_in(r: Record) -> Result<u8, Refusal>
+    ensures { result ≡ cause_in r }
 {
-    for i in 0..size {
-        buffer[i] = octets[i];
-    }
+    cause_of(r.reason).ok_or(Refusal::new(Reply::NotAllowed, 0))
 }
 
-// Writes a record's message at the front of a buffer, or says why not, and leaves it as it is.
-pub fn write(message: Record, buffer: &mut [u8]) -> Written
-    ensures { (result ≡ written_of message (length buffer.old)) × (buffer.new ≡ left_in message buffer.old) }
+// Puts octets at the front of a buffer, if it has room for them, and says how many.
+#[tactic(auto, unfolding(crate::specs::Writing::put_answer, crate::specs::Writing::put_left))]
+fn put(octets: &[u8], buffer: &mut [u8]) -> Result<usize, Refusal>
+    ensures answer { result ≡ put_answer octets.now (length buffer.old) }
+    ensures left { buffer.new ≡ put_left octets.now buffer.old }
 {
-    let found = refusal_of(message, buffer.len());
-    if found.reply != 0 {
-        return Written::Refused(found);
+    let size = octets.len();
+    if buffer.len() < size {
+        return Err(Refusal::new(Reply::NoRoom, 0));
     }
-    let size = size_of(message);
-    put(octets_of(message), size, buffer);
-    Written::Message(size)
+    buffer[..size].copy_from_slice(octets);
+    Ok(size)
+}
+
+// Writes a record's message at the front of a buffer and says how many octets it has, or why not, and leaves the buffer as it is.
+pub fn write(message: Record, buffer: &mut [u8]) -> Result<usize, Refusal>
+    ensures answer { result ≡ written_of message (length buffer.old) }
+    ensures left { buffer.new ≡ left_in message buffer.old }
+{
+    judged(message)?;
+    let [old, old_low] = message.old.0.to_be_bytes();
+    let [new, new_low] = message.new.0.to_be_bytes();
+    match shape_for(message) {
+        Shape::Release => put(
+            &[
+                0, 5, 0x40, 15, 0, 0, 2, // a release
+                0, 10, 0, 2, old, old_low, // the Old ID
+                0, 9, 0, 2, new, new_low, // the New ID
+            ],
+            buffer,
+        ),
+        Shape::Cancel => {
+            let cause = cause_in(message)?;
+            put(
+                &[
+                    0, 1, 0x40, 20, 0, 0, 3, // a cancel
+                    0, 10, 0, 2, old, old_low, // its Old ID
+                    0, 9, 0x40, 2, new, new_low, // its New ID
+                    0, 5, 0x40, 1, cause,
+                ],
+                buffer,
+            )
+        }
+        Shape::ShortCancel => {
+            let cause = cause_in(message)?;
+            put(
+                &[
+                    0, 1, 0x40, 14, 0, 0, 2, // one without a New ID
+                    0, 10, 0, 2, old, old_low, // and its Old ID
+                    0, 5, 0x40, 1, cause,
+                ],
+                buffer,
+            )
+        }
+    }
 }

@@ -1,35 +1,32 @@
+-- What is left is copied over the front of the block.
 use Prim.Native.Nat.{ℕ, ◌+◌, ◌-◌, ◌≤◌, ◌<◌, min}
-use mathlib.Core.Path.{◌≡◌, refl, sym, ap, ◌∙◌}
-use mathlib.Core.List.{List, []}
-use native.Mathlib.Numerals.{add-one}
+use mathlib.Core.Path.{◌≡◌, sym, ap, ◌∙◌}
+use mathlib.Core.List.{List, [], ◌++◌}
 use native.Mathlib.Omega.{arith}
-use lib.ListN.{length, get_or, set, take, drop, length-take, length-drop, length-set, drop_of_length-le}
-use lib.Seq.{sets, get_or-take, get_or-drop, drop-drop, drop-cons, drop-set-lt}
+use lib.ListN.{length, take, drop, length-take, length-drop, drop_of_length-le}
+use lib.Seq.{sets, sets-eq}
+use Rattle.std.specs.List.{copy_within}
+use Rattle.std.proofs.lemmas.List.{take_min}
+use Rattle.std.proofs.lemmas.Slice.{between_is}
 use Rattle.buffers.specs.Buffers.{left_in}
 use Rattle.buffers.proofs.carry.Goals as goal
 
--- how many bytes are left
-left-length : (taken held end : ℕ) (block : List ℕ) → end ≡ min held (length block) → length (left_in taken held block) ≡ end - taken
-left-length taken held end block e = length-drop taken (take held block) ∙ ap (λ (k : ℕ). k - taken) (length-take held block ∙ sym e)
+module _ (taken held end : ℕ) (block : List ℕ) (e : end ≡ min held (length block)) where
+  -- how many bytes are left
+  left-length : length (left_in taken held block) ≡ end - taken
+  left-length = length-drop taken (take held block) ∙ ap (λ (k : ℕ). k - taken) (length-take held block ∙ sym e)
 
--- one byte
-moved : (taken held end i : ℕ) (block block₀ : List ℕ) → end ≡ min held (length block₀) → i < end - taken → drop i block ≡ drop i block₀
-    → (drop (i + 1) (set block i (get_or block (taken + i) 0)) ≡ drop (i + 1) block₀) × (sets (set block i (get_or block (taken + i) 0)) (i + 1) (drop (i + 1) (left_in taken held block₀)) ≡ sets block i (drop i (left_in taken held block₀)))
-moved taken held end i block block₀ e h same =
-    let left = left_in taken held block₀ in
-    let swap : taken + i ≡ i + taken = omega arith in
-    let value : get_or block (taken + i) 0 ≡ get_or left i 0 =
-    ap (λ (k : ℕ). get_or block k 0) swap
-    ∙ sym (get_or-drop i block taken 0)
-    ∙ ap (λ (l : List ℕ). get_or l taken 0) same
-    ∙ get_or-drop i block₀ taken 0
-    ∙ ap (λ (k : ℕ). get_or block₀ k 0) (sym swap)
-    ∙ sym (get_or-take held block₀ (taken + i) 0 (omega arith))
-    ∙ sym (get_or-drop taken (take held block₀) i 0)
-    in (
-      drop-set-lt (i + 1) block i _ (omega arith) ∙ sym (drop-drop 1 i block) ∙ ap (drop 1) same ∙ drop-drop 1 i block₀,
-      rw (drop-cons left i 0 (omega (arith, left-length taken held end block₀ e)), add-one i, value),
-    )
+  -- and which they are
+  left-bytes : left_in taken held block ≡ take (end - taken) (drop taken block)
+  left-bytes = ap (drop taken) (sym (take_min held block) ∙ ap (λ (k : ℕ). take k block) (sym e)) ∙ sym (between_is block taken end)
+
+  copied : taken < end → copy_within block taken end 0 ≡ sets block 0 (left_in taken held block)
+  copied h =
+      let left = left_in taken held block in
+      let room : 0 + length left ≤ length block = omega (arith, left-length) in
+      let there : 0 + (end - taken) ≡ 0 + length left = omega (arith, left-length) in
+      rw there
+      (ap (λ (xs : List ℕ). xs ++ drop (0 + length left) block) (sym left-bytes) ∙ sym (sets-eq left block 0 room))
 
 -- nothing is left
 none : (taken held end : ℕ) (block : List ℕ) → end ≡ min held (length block) → end ≤ taken → left_in taken held block ≡ []
@@ -38,27 +35,14 @@ none taken held end block e h = drop_of_length-le (take held block) {i = taken} 
 pub returns-then-end-taken : goal.returns-then-end-taken
 returns-then-end-taken c =
     let start = c.args in
-    let nothing = none start.taken start.held _ start.block.now c.least-end.ensures c.if-end-taken.true in
+    let nothing = none start.taken start.held _ start.block.now c.min-end.ensures c.if-end-taken.true in
     record { next = omega (arith, ap length nothing); bytes = sym (ap (sets start.block.now 0) nothing) }
-
-pub loop-i-init : goal.loop-i-init
-loop-i-init c = (omega arith, refl, refl, refl)
-
-pub loop-i-preserved : goal.loop-i-preserved
-loop-i-preserved c =
-    let start = c.args in
-    let now = c.loop-i in
-    let on = moved start.taken start.held _ now.i now.block start.block.now c.least-end.ensures c.loop-i-test.true now.invariant.2 in
-    (omega arith, length-set now.block _ _ ∙ now.invariant.1, on.0, on.1 ∙ now.invariant.3)
-
-pub shape_of-block : goal.shape_of-block
-shape_of-block c = c.loop-i.invariant.1
 
 pub returns : goal.returns
 returns c =
     let start = c.args in
-    let left = left_in start.taken start.held start.block.now in
-    let long = left-length start.taken start.held _ start.block.now c.least-end.ensures in
-    let now = c.loop-i in
-    let all : drop now.i left ≡ [] = drop_of_length-le left {i = now.i} (omega arith) in
-    record { next = omega (arith, long); bytes = rw all at now.invariant.3 }
+    let end = c.min-end.result in
+    record {
+      next = omega (arith, left-length start.taken start.held end start.block.now c.min-end.ensures);
+      bytes = c.copy_within.ensures.after ∙ copied start.taken start.held end start.block.now c.min-end.ensures c.if-end-taken.false;
+    }

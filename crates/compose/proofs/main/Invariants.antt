@@ -1,9 +1,6 @@
--- The line that is read on has not ended; the turns left fall.
+-- The line that is read on has not ended.
 use Rattle.std.proofs.Common.{◌≡◌, false}
 use Rattle.compose.proofs.main.Given as goal
 
-abbrev pub invariant-loop-s : goal.invariant-loop-s
-invariant-loop-s l = l.s.draft.ended ≡ false
-
-abbrev pub decreases-loop-s : goal.decreases-loop-s
-decreases-loop-s l = l.turns
+abbrev pub invariant-loop : goal.invariant-loop
+invariant-loop l = l.line.draft.ended ≡ false

@@ -1,9 +1,9 @@
--- Each turn takes a byte at least, and the line that is read on has not ended.
-use Rattle.std.proofs.Common.{◌≡◌, ◌-◌, ◌≤◌, false, length}
+-- The line that is read on has not ended, so each turn takes a byte at least.
+use Rattle.std.proofs.Common.{◌≡◌, false, length}
 use Rattle.compose.proofs.take_all.Given as goal
 
-abbrev pub invariant-loop-taken : goal.invariant-loop-taken
-invariant-loop-taken l = (l.taken ≤ length l.bytes) × (l.now.draft.ended ≡ false)
+abbrev pub invariant-loop-rest : goal.invariant-loop-rest
+invariant-loop-rest l = l.now.draft.ended ≡ false
 
-abbrev pub decreases-loop-taken : goal.decreases-loop-taken
-decreases-loop-taken l = length l.bytes - l.taken
+abbrev pub decreases-loop-rest : goal.decreases-loop-rest
+decreases-loop-rest l = length l.rest

@@ -5,5 +5,5 @@ use Rattle.examples.proofs.write_lines.Goals as goal
 -- The lines stay within the buffer.
 pub returns : goal.returns
 returns c =
-    let within = progress_within true c.args.buffer.now c.args.events.now c.new-run.result c.answer-p.result c.answer-p.ensures.0 in
-    rw c.answer-p.auto.out within.1
+    let within = progress_within true c.args.buffer.now c.args.events.now c.new.result c.answer.result c.answer.ensures.0 in
+    rw c.answer.auto.out within.1

@@ -5,9 +5,8 @@ use Rattle.buffers.proofs.Writing.{Completes}
 use Rattle.lines.proofs.cells.Given as goal
 
 -- so far: each number took at most its room
-abbrev pub invariant-loop-i : goal.invariant-loop-i
-invariant-loop-i l =
-    (l.i ≤ 10)
-    × (length l.out ≡ length l.initial.out)
-    × (l.place ≤ l.at + cell_room * l.i)
-    × Completes l.initial.out l.out l.at (spaced l.numbers) l.place (spaced (drop l.i l.numbers))
+abbrev pub invariant-loop-n : goal.invariant-loop-n
+invariant-loop-n l =
+    (length l.out ≡ length l.initial.out)
+    × (l.place ≤ l.at + l.n-index * cell_room)
+    × Completes l.initial.out l.out l.at (spaced l.numbers) l.place (spaced (drop l.n-index l.numbers))

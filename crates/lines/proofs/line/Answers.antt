@@ -1,12 +1,9 @@
 -- Ten numbers with a space after each, and the last with a line feed.
-use Rattle.std.proofs.Common.{refl, arith}
+use Rattle.std.proofs.Common.{arith}
 use Rattle.lines.specs.Lines.{first_ten}
 use Rattle.buffers.proofs.Lengths.{spaced_most}
 use Rattle.buffers.proofs.Writing.{joined}
 use Rattle.lines.proofs.line.Goals as goal
-
-pub cells-next-requires : goal.cells-next-requires
-cells-next-requires c = (refl, omega (arith, c.requires))
 
 pub cell-requires : goal.cell-requires
 cell-requires c =

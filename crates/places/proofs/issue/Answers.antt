@@ -1,28 +1,32 @@
-use mathlib.Core.Path.{refl, ◌∙◌, sym}
-use Rattle.handover.proofs.Issuing.{next_small, issue_free, issue_used, issue_none}
+-- The search stops at a number that no record uses, passes over one that some record uses, and ends.
+use Prim.Native.Nat.{suc, ◌+◌, ◌-◌}
+use mathlib.Core.Path.{◌≡◌}
+use native.Mathlib.Omega.{arith}
+use Rattle.std.proofs.lemmas.Grind.{common_steps}
+use Rattle.handover.specs.Numbers.{issue_from}
+use Rattle.handover.proofs.Issuing.{next_small, issue_free, issue_used}
 use Rattle.places.proofs.issue.Goals as goal
 
-pub loop-most-init : goal.loop-most-init
-loop-most-init c = λ whole small. rw (c.next_after-id.ensures small) (next_small _ small, refl)
+pub loop-tried-init : goal.loop-tried-init
+loop-tried-init c = λ small. grind (arith, common_steps, next_small, c.next_after-id.ensures small)
 
 pub returns-then-not-uses : goal.returns-then-not-uses
 returns-then-not-uses c =
-    λ whole small.
-    let l = c.loop-most in
-    let here = l.invariant whole small in
-    (sym (issue_free l.most _ _ (sym (c.uses.ensures whole) ∙ c.if-not-uses.true)) ∙ here.1, here.0)
+    λ small.
+    let here = c.loop-tried.invariant small in
+    grind (arith, common_steps, here, issue_free)
 
-pub loop-most-preserved : goal.loop-most-preserved
-loop-most-preserved c =
-    λ whole small.
-    let l = c.loop-most in
-    let here = l.invariant whole small in
-    let past = issue_used l.most _ _ c.loop-most-test.true (sym (c.uses.ensures whole) ∙ c.if-not-uses.false) in
-    rw (c.next_after-id-in-loop-most.ensures here.0) (next_small _ here.0, sym past ∙ here.1)
+pub loop-tried-preserved : goal.loop-tried-preserved
+loop-tried-preserved c =
+    λ small.
+    let here = c.loop-tried.invariant small in
+    let left : 64 - c.loop-tried._tried ≡ suc (64 - (c.loop-tried._tried + 1)) = omega arith in
+    grind (arith, common_steps, here, left, next_small, issue_used)
 
 pub returns : goal.returns
+unfolding issue_from
 returns c =
-    λ whole small.
-    let l = c.loop-most in
-    let here = l.invariant whole small in
-    (sym (issue_none l.most _ _ c.loop-most-test.false) ∙ here.1, here.0)
+    λ small.
+    let here = c.loop-tried.invariant small in
+    let none : 64 - c.loop-tried._tried ≡ 0 = omega arith in
+    (rw none at here.1, here.0)

@@ -5,7 +5,7 @@ use Rattle.station.proofs.answer.Goals as goal
 -- The lines stay within the buffer.
 pub slice_bounds-write_all-end : goal.slice_bounds-write_all-end
 slice_bounds-write_all-end c =
-    let s = c.args.s in
+    let s = c.args.s.now in
     let within = progress_within s.ended c.args.output.now (take s.held c.args.input.now) s.run c.answer-p.result c.answer-p.ensures.0 in
     rw c.answer-p.auto.out within.1
 

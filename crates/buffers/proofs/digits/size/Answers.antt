@@ -1,25 +1,20 @@
-use Prim.Native.Nat.{ℕ, zero, suc, ◌/◌, ◌^◌, ◌≤◌, ◌<◌}
-use mathlib.Core.Path.{◌≡◌, refl}
+-- The greatest power of ten up to the number says how many digits it has; 0 has as many as 1.
+use Prim.Native.Nat.{ℕ, zero, suc, max}
+use mathlib.Core.Path.{◌≡◌, sym, ap, ◌∙◌}
 use native.Mathlib.Omega.{arith}
-use Rattle.buffers.specs.Digits.{size_in}
-use Rattle.buffers.proofs.Lengths.{one_digit, more_digits}
+use Rattle.buffers.specs.Digits.{size}
+use Rattle.buffers.proofs.Lengths.{one_digit, size_by_power}
 use Rattle.buffers.proofs.digits.size.Goals as goal
 
-pub loop-rest-init : goal.loop-rest-init
-loop-rest-init c = (19, refl, omega arith, omega arith)
-
--- one digit less is left
-one_less : (most n : ℕ) → 10 ≤ n → n < 10 ^ suc most → (less : ℕ) × (suc less ≡ most) × (size_in most n ≡ suc (size_in less (n / 10))) × (n / 10 < 10 ^ suc less)
-one_less zero n h k = absurd (omega arith)
-one_less (suc most) n h k = (most, refl, more_digits most n h, omega arith)
-
-pub loop-rest-preserved : goal.loop-rest-preserved
-loop-rest-preserved c =
-    let now = c.loop-rest.invariant in
-    let less = one_less now.0 c.loop-rest.rest c.loop-rest-test.true now.3 in
-    (less.0, omega arith, omega arith, less.3)
+as_many : (n : ℕ) → size (max n 1) ≡ size n
+as_many zero = one_digit 19 1 (omega arith) ∙ sym (one_digit 19 0 (omega arith))
+as_many (suc n) = let same : max (suc n) 1 ≡ suc n = omega arith in ap size same
 
 pub returns : goal.returns
 returns c =
-    let now = c.loop-rest.invariant in
-    omega (arith, one_digit now.0 c.loop-rest.rest c.loop-rest-test.false)
+    let n = c.max.result in
+    let last = c.ilog10.result in
+    let power = c.ilog10.ensures in
+    let digits : size n ≡ suc last = size_by_power 19 last n (omega (arith, power.bound)) power.power_le power.next_power_gt in
+    let same : size n ≡ size c.args.n = ap size c.max.ensures ∙ as_many c.args.n in
+    omega (arith, digits, same)

@@ -1,5 +1,4 @@
 use Prim.Native.Nat.{ℕ, zero, suc, ◌+◌, ◌-◌, ◌/◌, ◌%◌, ◌≤◌}
-use borrow.Author.Tests.{le-leb, leb-true}
 use mathlib.Core.Path.{◌≡◌, refl, sym, ap, ◌∙◌}
 use mathlib.Core.List.{List}
 use native.Mathlib.Omega.{arith}
@@ -22,25 +21,10 @@ one_less out at (suc i) rest h =
     (last_first out at (digits i (rest / 10)) (48 + rest % 10)
     ∙ ap (λ (k : ℕ). sets (set out (at + k) (48 + rest % 10)) at (digits i (rest / 10))) there))
 
-pub returns-then-not-has_room : goal.returns-then-not-has_room
-returns-then-not-has_room c = rw (sym c.has_room.ensures ∙ c.if-not-has_room.true)
-
-pub loop-i-init : goal.loop-i-init
-loop-i-init c =
-    let a = c.args in
-    (omega arith, refl, leb-true (a.at + a.k) (length a.out.now) (sym c.has_room.ensures ∙ c.if-not-has_room.false), refl)
-
 pub loop-i-preserved : goal.loop-i-preserved
 loop-i-preserved c =
-    let now = c.loop-i.invariant in (
-      omega arith,
-      length-set c.loop-i.out _ _ ∙ now.1,
-      now.2,
-      one_less c.loop-i.out c.args.at c.loop-i.i c.loop-i.rest c.loop-i-test.true ∙ now.3,
-    )
-
-pub shape_of-out : goal.shape_of-out
-shape_of-out c = c.loop-i.invariant.1
+    let now = c.loop-i in
+    (length-set now.out _ _ ∙ now.invariant.0, one_less now.out c.args.at now.i now.rest c.loop-i-test.true ∙ now.invariant.1)
 
 -- none is left
 done : (out : List ℕ) (at i rest : ℕ) → i ≤ 0 → out ≡ sets out at (digits i rest)
@@ -50,6 +34,5 @@ done out at (suc i) rest h = absurd (omega arith)
 
 pub returns : goal.returns
 returns c =
-    let a = c.args in
     let l = c.loop-i in
-    rw (le-leb (a.at + a.k) (length a.out.now) l.invariant.2) (done l.out a.at l.i l.rest c.loop-i-test.false ∙ l.invariant.3)
+    rw (sym c.has_room.ensures ∙ c.if-not-has_room.false) (done l.out c.args.at l.i l.rest (omega (arith, c.loop-i-test.false)) ∙ l.invariant.1)

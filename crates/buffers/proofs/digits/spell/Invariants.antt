@@ -1,5 +1,4 @@
 -- The digits that are left, stored over what is there, give the whole: each turn stores the last of them.
-use Prim.Native.Nat.{◌+◌, ◌≤◌}
 use mathlib.Core.Path.{◌≡◌}
 use lib.ListN.{length}
 use lib.Seq.{sets}
@@ -7,7 +6,4 @@ use Rattle.buffers.specs.Digits.{digits}
 use Rattle.buffers.proofs.digits.spell.Given as goal
 
 abbrev pub invariant-loop-i : goal.invariant-loop-i
-invariant-loop-i l = (l.i ≤ l.k) × (length l.out ≡ length l.initial.out) × (l.at + l.k ≤ length l.initial.out) × (sets l.out l.at (digits l.i l.rest) ≡ sets l.initial.out l.at (digits l.k l.n))
-
-abbrev pub decreases-loop-i : goal.decreases-loop-i
-decreases-loop-i l = l.i
+invariant-loop-i l = (length l.out ≡ length l.initial.out) × (sets l.out l.at (digits l.i l.rest) ≡ sets l.initial.out l.at (digits l.k l.n))

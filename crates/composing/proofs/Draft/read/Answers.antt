@@ -1,44 +1,30 @@
-use Prim.Native.Nat.{◌<◌}
-use mathlib.Core.Path.{refl, ◌∙◌}
+use mathlib.Core.Path.{◌≡◌, ◌∙◌}
 use native.Mathlib.Omega.{arith}
-use mathlib.Core.Bool.{not}
-use borrow.Author.Tests.{ltb-true, not-true}
-use lib.Dec.{ltb}
 use lib.ListN.{length}
-use Rattle.laws.proofs.Tests.{both_true}
 use Rattle.composing.specs.Composed.{made}
-use Rattle.composing.proofs.Machine.{read_on, read_done}
+use Rattle.composing.proofs.Machine.{read_on, read_over, read_out}
+use Rattle.composing.proofs.Taken.{taken_some}
 use Rattle.composing.proofs.Draft.read.Goals as goal
-
-pub loop-taken-init : goal.loop-taken-init
-loop-taken-init c = (omega arith, refl, refl, omega arith)
-
-pub bounds-bytes-taken : goal.bounds-bytes-taken
-bounds-bytes-taken c = ltb-true _ _ (both_true _ _ c.loop-taken-test.true).0
-
-pub overflow_add-taken : goal.overflow_add-taken
-overflow_add-taken c =
-    let now = c.loop-taken in
-    omega (arith, ltb-true now.taken (length c.args.bytes.now) (both_true (ltb now.taken (length c.args.bytes.now)) (not now.draft.ended) c.loop-taken-test.true).0)
-
-pub loop-taken-smaller : goal.loop-taken-smaller
-loop-taken-smaller c =
-    let now = c.loop-taken in
-    omega (arith, ltb-true now.taken (length c.args.bytes.now) (both_true (ltb now.taken (length c.args.bytes.now)) (not now.draft.ended) c.loop-taken-test.true).0)
 
 pub loop-taken-preserved : goal.loop-taken-preserved
 loop-taken-preserved c =
     let now = c.loop-taken in
-    let test = both_true (ltb now.taken (length c.args.bytes.now)) (not now.draft.ended) c.loop-taken-test.true in
-    let here : now.taken < length c.args.bytes.now = ltb-true now.taken (length c.args.bytes.now) test.0 in
-    let on = read_on c.args.bytes.now now.taken (made now.draft now.out) _ here (not-true now.draft.ended test.1) c.step-draft.ensures in
-    (omega arith, c.step-draft.auto.out ∙ now.invariant.1, on.0 ∙ now.invariant.2, on.1 ∙ now.invariant.3)
+    let on = read_on c.args.bytes.now now.taken (made now.draft now.out) _ c.loop-taken-test.true c.if-draft.false c.step-draft.ensures in
+    (c.step-draft.auto.out ∙ now.invariant.0, on.0 ∙ now.invariant.1, on.1 ∙ now.invariant.2)
 
-pub shape_of-out : goal.shape_of-out
-shape_of-out c = c.loop-taken.invariant.1
-
-pub returns : goal.returns
-returns c =
+pub returns-then-draft-clause-read : goal.returns-then-draft-clause-read
+returns-then-draft-clause-read c =
     let now = c.loop-taken in
-    let over = read_done c.args.bytes.now now.taken (made now.draft now.out) c.loop-taken-test.false in
-    (over.0 ∙ now.invariant.2, over.1 ∙ now.invariant.3)
+    let over = read_over c.args.bytes.now now.taken (made now.draft now.out) c.loop-taken-test.true c.if-draft.true in
+    (over.0 ∙ now.invariant.1, over.1 ∙ now.invariant.2)
+
+pub returns-clause-read : goal.returns-clause-read
+returns-clause-read c =
+    let now = c.loop-taken in
+    let over = read_out c.args.bytes.now now.taken (made now.draft now.out) c.loop-taken-test.false in
+    let all : length c.args.bytes.now ≡ now.taken = omega arith in
+    (over.0 ∙ now.invariant.1, all ∙ over.1 ∙ now.invariant.2)
+
+pub returns-then-draft-clause-onward : goal.returns-then-draft-clause-onward
+returns-then-draft-clause-onward c still some =
+    rw (returns-then-draft-clause-read c).1 (taken_some c.args.bytes.now (made c.args.self c.args.out.now) some still)

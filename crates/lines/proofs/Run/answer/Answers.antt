@@ -64,7 +64,7 @@ loop-out-preserved c =
           answer.ensures.0
           answer.ensures.2
           line.ensures
-          c.wrapping_add_u64-place.ensures.value
+          refl
           c.cut-piece-in-loop-out.ensures,
       answer.auto.verdicts ∙ now.invariant.1,
     )

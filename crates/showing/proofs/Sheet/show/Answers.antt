@@ -1,44 +1,42 @@
 -- Where a record is there and has room, its text is written and the sheet goes on.
 use Prim.Native.Nat.{ℕ, ◌≤◌}
-use mathlib.Core.Path.{◌≡◌, refl, sym}
+use mathlib.Core.Path.{◌≡◌, refl, sym, ap, ◌∙◌}
 use mathlib.Core.Bool.{true}
-use mathlib.Core.List.{List}
-use borrow.Author.Tests.{leb-true}
-use Rattle.laws.proofs.Tests.{both_true}
-use lib.Dec.{leb}
-use lib.ListN.{length}
-use lib.Seq.{length-take-le}
+use borrow.Author.Rules.{rules}
+use borrow.Author.Tests.{le-leb, lt-leb}
+use lib.ListN.{length, take}
+use Rattle.records.specs.Record.{record_of}
 use Rattle.showing.specs.Room.{event_room}
-use Rattle.showing.specs.Shown.{is_shown}
-use Rattle.showing.proofs.Writing.{is_shown_lem}
+use Rattle.showing.specs.Shown.{owed_after, event_text, is_shown, shown_of, shown_text}
+use Rattle.records.specs.declared.Record.{Record}
+use Rattle.showing.specs.declared.Sheet.{Sheet}
+use Rattle.showing.specs.declared.Shown.{Shown}
+use Rattle.buffers.specs.Buffers.{Writes}
+use native.Mathlib.Omega.{arith}
+use lib.Seq.{sets}
+use mathlib.Core.List.{List}
 use Rattle.showing.proofs.Sheet.show.Goals as goal
 
--- what the test tells
-room : (bytes out : List ℕ) → is_shown (length out) bytes ≡ true → (32 ≤ length bytes) × (event_room ≤ length out)
-room bytes out t =
-    let both = both_true (leb 32 (length bytes)) (leb event_room (length out)) t in
-    (leb-true 32 (length bytes) both.0, leb-true event_room (length out) both.1)
+-- what is told of a record that is shown
+shown : (s : Sheet) (bytes out : List ℕ) {left : List ℕ} (r : Record) (n owed : ℕ) → is_shown (length out) bytes ≡ true → r ≡ record_of (take 32 bytes)
+    → Writes out left 0 (event_text s (take 32 bytes)) n → owed ≡ owed_after s r
+    → (◌≡◌ {A = Shown} record { sheet = record { owed = owed; begun = true }; taken = 32; written = n } (shown_of (length out) bytes s)) × (left ≡ sets out 0 (shown_text (length out) bytes s))
+shown s bytes out r n owed t e event h =
+    let told : owed ≡ owed_after s (record_of (take 32 bytes)) = rw (sym e) h in
+    let size : n ≡ length (event_text s (take 32 bytes)) = omega (arith, event.next) in
+    rw t (rw (size, told), event.bytes)
 
-pub record_at-r-requires : goal.record_at-r-requires
-record_at-r-requires c =
-    let start = c.args in
-    (room start.bytes.now start.out.now c.if-bytes-out.true).0
+pub returns-in-Some-clause-told : goal.returns-in-Some-clause-told
+returns-in-Some-clause-told c =
+    let bytes = c.args.bytes.now in
+    let out = c.args.out.now in
+    let front : c.in-Some.bytes.now ≡ take 32 bytes = search rules in
+    let whole : 32 ≤ length bytes = search rules in
+    let told : is_shown (length out) bytes ≡ true = rw (le-leb 32 (length bytes) whole, le-leb event_room (length out) c.if-out-ge-ROOM.true) in
+    shown c.args.self bytes out _ _ _ told (c.of.ensures ∙ ap record_of front) (rw front at c.write_event-written.ensures.0) c.owed_after.ensures
 
-pub slice_bounds-write_event-end : goal.slice_bounds-write_event-end
-slice_bounds-write_event-end c =
-    let start = c.args in
-    sym (length-take-le 32 start.bytes.now (room start.bytes.now start.out.now c.if-bytes-out.true).0)
-
-pub write_event-written-requires : goal.write_event-written-requires
-write_event-written-requires c =
-    let told = room c.args.bytes.now c.args.out.now c.if-bytes-out.true in
-    (length-take-le 32 c.args.bytes.now told.0, c.record_at-r.ensures, told.1)
-
-pub returns-then-bytes-out : goal.returns-then-bytes-out
-returns-then-bytes-out c =
-    let start = c.args in
-    let event = c.write_event-written.ensures in
-    is_shown_lem start.self start.bytes.now start.out.now _ _ c.if-bytes-out.true c.record_at-r.ensures event c.owed_after.ensures
-
-pub returns : goal.returns
-returns c = rw c.if-bytes-out.false (refl, refl)
+pub returns-in_default-clause-told : goal.returns-in_default-clause-told
+returns-in_default-clause-told c =
+    let bytes = c.args.bytes.now in
+    let whole : 32 ≤ length bytes = search rules in
+    rw (le-leb 32 (length bytes) whole, lt-leb event_room (length c.args.out.now) c.if-out-ge-ROOM.false) (refl, refl)

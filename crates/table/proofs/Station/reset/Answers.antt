@@ -1,42 +1,63 @@
-use Prim.Native.Nat.{◌-◌}
-use mathlib.Core.Path.{◌≡◌, ◌∙◌, sym, ap, subst}
-use native.Mathlib.Nat.{add-zero}
+use Prim.Native.Nat.{◌<◌, ◌≤◌}
+use mathlib.Core.Path.{◌≡◌, ◌∙◌, refl, sym}
+use mathlib.Core.Bool.{true, false}
+use mathlib.Core.List.{map, append-nil}
 use native.Mathlib.Omega.{arith}
-use lib.ListN.{get_or}
-use Rattle.table.specs.declared.Station.{Station}
-use Rattle.handover.specs.Events.{key}
+use native.Mathlib.Nat.{add-zero}
+use Rattle.std.proofs.lemmas.Grind.{common_steps}
+use lib.ListN.{length, get_or, drop_of_length-le}
+use lib.Seq.{take_all}
+use Rattle.laws.specs.Sums.{total}
+use Rattle.handover.specs.Events.{resets}
 use Rattle.handover.specs.Numbers.{blank}
-use Rattle.table.specs.Table.{Puts}
-use Rattle.table.proofs.Resetting.{ended_by, partly_none, partly_all, partly_puts, partly_next}
-use Rattle.table.proofs.Station.reset.Goals.{In-loop-i, then-is_reset, else-is_reset}
+use Rattle.table.specs.Table.{left_of, back_of}
+use Rattle.table.proofs.Resetting.{same_station, given_back, passed_here, passed_ended, passed_kept, given_next, given_within}
+use Rattle.table.proofs.Station.reset.Goals.{then-is_reset, else-is_reset}
 use Rattle.table.proofs.Station.reset.Goals as goal
 
--- the record at the place can be ended
-ends : (c : In-loop-i) → Puts c.loop-i.i blank c.loop-i.self
-ends c =
-    let l = c.loop-i in
-    subst (λ (s : Station). Puts l.i blank s) (sym l.invariant.1) (partly_puts c.args.e c.args.self c.requires l.i c.loop-i-test.true)
+pub loop-r-init : goal.loop-r-init
+unfolding total
+loop-r-init c = (refl, add-zero c.args.self.used)
 
-pub loop-i-init : goal.loop-i-init
-loop-i-init c = (omega arith, partly_none c.args.e c.args.self)
-
-pub overflow_sub-self : goal.overflow_sub-self
-overflow_sub-self c = (ends (goal.at.overflow_sub-self c).In-loop-i).back
-
-pub loop-i-preserved : goal.loop-i-preserved
-loop-i-preserved c =
+pub overflow_sub-used : goal.overflow_sub-used
+overflow_sub-used c =
     let a = c.args in
-    let l = c.loop-i in
-    let mine = sym (rw c.key_of-key.ensures at c.is_reset.ensures) in
-    let next : c.if-is_reset.self ≡ ended_by (key a.e.kind) l.i a.e l.self =
+    let l = c.loop-r in
+    let here = passed_here a.e a.self.entries l.r-index (omega (arith, c.requires.places)) in
+    rw (l.invariant.0, here)
+    (omega (arith, l.invariant.1, c.requires.sum, given_within a.e a.self.entries l.r-index (omega (arith, c.requires.places))))
+
+pub loop-r-preserved : goal.loop-r-preserved
+loop-r-preserved c =
+    let a = c.args in
+    let l = c.loop-r in
+    let es = a.self.entries in
+    let r = get_or es l.r-index blank in
+    let within : l.r-index < length es = omega (arith, c.requires.places) in
+    let here : get_or l.r-items l.r-index blank ≡ r = rw l.invariant.0 (passed_here a.e es l.r-index within) in
+    let mine : c.is_reset.result ≡ resets a.e r = rw (c.key_of-key.ensures, here) at c.is_reset.ensures in
     elim c.if-is_reset.branch [
-      | then-is_reset w ↦ w.self-is ∙ sym (rw (mine ∙ w.if-is_reset.true, w.blank.ensures, add-zero (l.self.used - (get_or l.self.entries l.i blank).units)))
-      | else-is_reset w ↦ w.self-is ∙ sym (rw (mine ∙ w.if-is_reset.false))
-    ] in
-    (omega arith, next ∙ ap (ended_by (key a.e.kind) l.i a.e) l.invariant.1 ∙ partly_next a.e a.self c.requires l.i c.loop-i-test.true)
+      | then-is_reset w ↦
+          let ends : resets a.e r ≡ true = sym mine ∙ w.if-is_reset.true in
+          let given : back_of a.e r ≡ r.units = rw ends in (
+            w.r-items-is ∙ rw (l.invariant.0, w.blank.ensures) (passed_ended a.e es l.r-index within ends),
+            rw (w.used-is, here) (omega (arith, l.invariant.1, given, given_next a.e es l.r-index within, given_within a.e es l.r-index within, c.requires.sum)),
+          )
+      | else-is_reset w ↦
+          let stays : resets a.e r ≡ false = sym mine ∙ w.if-is_reset.false in
+          let none : back_of a.e r ≡ 0 = rw stays in
+          let kept = l.invariant.0 ∙ passed_kept a.e es l.r-index within stays in (
+            grind (arith, common_steps, kept),
+            rw w.used-is (omega (arith, l.invariant.1, none, given_next a.e es l.r-index within)),
+          )
+    ]
 
 pub returns : goal.returns
 returns c =
-    let all : c.loop-i.i ≡ 64 = omega arith in
     let a = c.args in
-    rw all at c.loop-i.invariant.1 ∙ partly_all a.e a.self c.requires
+    let l = c.loop-r in
+    let es = a.self.entries in
+    let all : length es ≤ l.r-index = omega (arith, c.requires.places) in
+    same_station a.self
+    (l.invariant.0 ∙ rw (take_all l.r-index es all, drop_of_length-le es {i = l.r-index} all) (append-nil (map (left_of a.e) es)))
+    (let back : given_back a.e l.r-index es ≡ total (back_of a.e) es = rw (take_all l.r-index es all) in omega (arith, l.invariant.1, back))

@@ -1,6 +1,0 @@
--- Test by test.
-
-use Rattle.reading.proofs.whole.is_release.Goals as goal
-
-pub returns : goal.returns
-returns c = rw (c.begins.ensures, c.heads.ensures, c.heads-2.ensures)

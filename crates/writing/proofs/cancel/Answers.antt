@@ -1,6 +1,0 @@
--- Octet by octet.
-
-use Rattle.writing.proofs.cancel.Goals as goal
-
-pub returns : goal.returns
-returns c = rw c.cause_of.ensures
