@@ -3,13 +3,14 @@ use Prim.Native.Nat.{ℕ, zero, suc, ◌+◌, ◌/◌, ◌%◌, ◌≤◌, ◌<�
 use mathlib.Core.Path.{◌≡◌, refl, sym, ap, subst}
 use mathlib.Core.Bool.{true, false, ◌&&◌}
 use mathlib.Core.List.{List, [], ◌∷◌, map}
-use borrow.Author.Tests.{leb-true, ne_eqb}
+use borrow.Author.Tests.{leb-true}
 use native.Mathlib.Numerals.{add-one}
 use native.Mathlib.Omega.{arith}
 use lib.Dec.{leb, eqb}
 use lib.ListN.{length, get_or, take, drop, drop_of_length-le, get_or-map, length-map}
 use lib.Seq.{drop-cons}
 use Rattle.std.specs.Simd.{first_chunks}
+use Rattle.std.specs.List.{list_all}
 use Rattle.std.specs.Option.{option_or}
 use Rattle.std.proofs.Common.{Option, Some, None}
 use Rattle.std.proofs.lemmas.Option.{cond_some, none-some}
@@ -51,6 +52,17 @@ formed r t =
       leb-true r.priority 15 (each_fits (limits_of 16) (values_of r) all 11 (omega arith) (omega arith)),
     )
 
+-- The test that each piece is put to is that of all records.
+pub each_bearer : (parts : List (List ℕ)) → list_all (λ bytes. is_bearer (record_of bytes)) parts ≡ all_bearers (map record_of parts)
+unfolding all_bearers
+each_bearer [] = refl
+each_bearer (bytes ∷ parts) = ap (λ t. is_bearer (record_of bytes) && t) (each_bearer parts)
+
+pub each_of_kind : (parts : List (List ℕ)) → list_all (λ bytes. eqb (record_of bytes).kind 16) parts ≡ all_of_kind (map record_of parts)
+unfolding all_of_kind
+each_of_kind [] = refl
+each_of_kind (bytes ∷ parts) = ap (λ t. eqb (record_of bytes).kind 16 && t) (each_of_kind parts)
+
 -- the records of pieces of 32 bytes, of which the one at a place is looked at
 module _ (parts : List (List ℕ)) (i : ℕ) where
   abbrev all : List Record
@@ -79,24 +91,7 @@ module _ (parts : List (List ℕ)) (i : ℕ) where
     unfolding all_bearers
     stop e = rw (next_records, refuted (is_bearer r) (λ t. none-some (bearer_of r) (rw t at e)))
 
-    -- It is a bearer's or not.
-    pub bearer_next : is_bearer r ≡ true → all_bearers (drop i all) ≡ all_bearers (drop (i + 1) all)
-    unfolding all_bearers
-    bearer_next is = rw (next_records, is)
-
-    pub bearer_stop : is_bearer r ≡ false → all_bearers (drop i all) ≡ false
-    unfolding all_bearers
-    bearer_stop other = rw (next_records, other)
-
-    -- It is of a bearer's kind or not, and has a fault or not.
-    pub kind_next : r.kind ≡ 16 → all_of_kind (drop i all) ≡ all_of_kind (drop (i + 1) all)
-    unfolding all_of_kind
-    kind_next is = rw (next_records, is)
-
-    pub kind_stop : (r.kind ≡ 16 → ⊥) → all_of_kind (drop i all) ≡ false
-    unfolding all_of_kind
-    kind_stop other = rw (next_records, ne_eqb r.kind 16 other)
-
+    -- It has a fault or not.
     pub flaw_here : (fault : Option Fault) (place : ℕ) → fault ≡ fault_of_bearer r → flaw_from place (drop i all) ≡ option_or (flaw_at fault place) (flaw_from (suc place) (drop (i + 1) all))
     unfolding flaw_from
     flaw_here fault place is = rw (next_records, is)

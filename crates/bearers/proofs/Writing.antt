@@ -1,27 +1,20 @@
 -- The verdicts and the refused set, while they are written one by one.
-use Prim.Native.Nat.{ℕ, zero, suc, ◌+◌, ◌≤◌, ◌<◌}
+use Prim.Native.Nat.{ℕ, zero, suc, ◌≤◌, ◌<◌}
 use mathlib.Core.Path.{◌≡◌, refl, ◌∙◌, sym, ap, ap₂}
 use mathlib.Core.Bool.{cond, not}
 use mathlib.Core.List.{List, [], ◌∷◌, ◌++◌, map}
 use borrow.Author.Tests.{eqb-true, eqb-false}
-use native.Mathlib.Numerals.{add-one}
 use native.Mathlib.Omega.{arith}
 use lib.Dec.{eqb}
 use lib.ListN.{length, get_or, set, drop, length-set}
-use lib.Seq.{drop-cons, drop-set-lt, get_or-set_same, get_or-set_other}
+use lib.Seq.{drop-set-lt, get_or-set_same, get_or-set_other}
+use mathlib.Core.Logic.{◌⊎◌, inl, inr}
 use Rattle.laws.proofs.Tests.{by_cases}
 use Rattle.bearers.specs.declared.Bearer.{Bearer}
-use Rattle.bearers.specs.declared.Survey.{Survey}
 use Rattle.bearers.specs.Admission.{those, ids_of}
 use Rattle.sets.specs.Sets.{add, union, set_of}
-use Rattle.bearers.specs.Working.{Tidy, firsts_of, written}
+use Rattle.bearers.specs.Working.{written}
 use Rattle.sets.proofs.Membership.{union_slide}
-use Rattle.bearers.proofs.Turns.{firsts_cons}
-
--- One verdict more.
-pub written_more : (verdict : Bearer → ℕ) (s : Survey) (j : ℕ) (d : Bearer) (buffer : List ℕ) → Tidy s → j < s.len → written verdict (drop j s.places) (drop j (firsts_of s)) buffer ≡ written verdict (drop (j + 1) s.places) (drop (j + 1) (firsts_of s)) (set buffer (get_or s.places j 0) (verdict (get_or s.firsts j d)))
-unfolding written
-written_more verdict s j d buffer tidy h = rw (firsts_cons s j d tidy h, drop-cons s.places j 0 (omega (arith, tidy.few, tidy.places)), add-one)
 
 -- the IDs of the bearers that have a verdict other than 0
 abbrev ids_refused : (Bearer → ℕ) → List Bearer → ℕ
@@ -35,8 +28,26 @@ refused_cons verdict b left refused all e =
     (λ t. rw t (rw t at e))
     (λ t. rw t (sym (union_slide refused (ids_refused verdict left) b.id) ∙ rw t at e))
 
-pub refused_more : (verdict : Bearer → ℕ) (s : Survey) (j : ℕ) (d : Bearer) (refused all : ℕ) → Tidy s → j < s.len → union refused (ids_refused verdict (drop j (firsts_of s))) ≡ all → union (cond (eqb (verdict (get_or s.firsts j d)) 0) refused (add refused (get_or s.firsts j d).id)) (ids_refused verdict (drop (j + 1) (firsts_of s))) ≡ all
-refused_more verdict s j d refused all tidy h e = refused_cons verdict (get_or s.firsts j d) (drop (j + 1) (firsts_of s)) refused all (rw (firsts_cons s j d tidy h) at e)
+-- With the first of those that are left, one verdict more is written; the places of the others are inside the buffer too.
+module _ (verdict : Bearer → ℕ) (firsts left : List Bearer) (places others : List ℕ) (b : Bearer) (p : ℕ) (first : firsts ≡ b ∷ left) (place : places ≡ p ∷ others) where
+  pub written_more : (buffer : List ℕ) → written verdict places firsts buffer ≡ written verdict others left (set buffer p (verdict b))
+  unfolding written
+  written_more buffer = rw (first, place)
+
+  pub refused_more : (refused all : ℕ) → union refused (ids_refused verdict firsts) ≡ all → union (cond (eqb (verdict b) 0) refused (add refused b.id)) (ids_refused verdict left) ≡ all
+  refused_more refused all e = refused_cons verdict b left refused all (rw first at e)
+
+  pub enough_more : length firsts ≤ length places → length left ≤ length others
+  enough_more h = omega (arith, ap length first, ap length place, h)
+
+  pub inside_more : (room : ℕ) → ((j : ℕ) → j < length firsts → get_or places j 0 < room) → (j : ℕ) → j < length left → get_or others j 0 < room
+  inside_more room inside j h = rw place at inside (suc j) (omega (arith, ap length first, h))
+
+-- None of the bearers is left once they or their places are through.
+pub none_left : (firsts : List Bearer) (places : List ℕ) → length firsts ≤ length places → (firsts ≡ []) ⊎ (places ≡ []) → firsts ≡ []
+none_left firsts places enough (inl e) = e
+none_left [] places enough (inr e) = refl
+none_left (b ∷ firsts) places enough (inr e) = absurd (omega (arith, enough, ap length e))
 
 -- A buffer that begins with the verdict of each bearer.
 front : (verdict : Bearer → ℕ) (bs : List Bearer) (buffer : List ℕ) → length bs ≤ length buffer → ((i : ℕ) (d : Bearer) → i < length bs → get_or buffer i 0 ≡ verdict (get_or bs i d)) → buffer ≡ map verdict bs ++ drop (length bs) buffer

@@ -142,7 +142,7 @@ pub fn is_bearer(r: Record) -> bool
 fn is_counted(e: Record) -> bool
     ensures { result ≡ is_counted e }
 {
-    e.kind != Kind::Request as u8 || 1 <= e.number && e.number <= 256
+    e.kind != Kind::Request as u8 || e.takes_bearers()
 }
 
 // What sort of event a record is: none if it is malformed, a request's bearers apart.

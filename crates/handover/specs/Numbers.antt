@@ -1,7 +1,13 @@
 -- Numbers of the station.
 use Rattle.std.specs.Prelude.{ℕ, zero, suc, ◌+◌, Bool, cond, ◌&&◌, ◌||◌, List, leb, eqb}
 use Rattle.std.specs.List.{list_any}
+use Rattle.records.specs.declared.Kind.{Kind}
+use Rattle.records.specs.declared.Kind.TheVariants as kinds
 use Rattle.handover.specs.declared.Entry.{Entry}
+use Rattle.handover.specs.declared.Reply.{Reply}
+use Rattle.handover.specs.declared.Reply.TheVariants.{Done, NoRecord, Repeated, Full, NoneAdmitted, Untaken, Unfit, Early, NoneDue, BadSetting}
+use Rattle.handover.specs.declared.events.Reason.{Reason}
+use Rattle.handover.specs.declared.events.Reason.TheVariants.{Decided, TimedOut, Returned}
 
 -- "A record is outgoing (preparing, prepared) or incoming (held, serving)": the states are numbered 1 to 4 in this order,
 -- and 0 is a free place
@@ -76,3 +82,43 @@ next_after i = cond (eqb i 4095) 0 (i + 1)
 unfoldable pub issue_from : ℕ → ℕ → List Entry → ℕ
 issue_from zero i rs = i
 issue_from (suc most) i rs = cond (list_any (own_is i) rs) (issue_from most (next_after i) rs) i
+
+-- the number of a kind
+abbrev pub kind_number : Kind → ℕ
+kind_number kinds.Request = 1
+kind_number kinds.Acknowledge = 2
+kind_number kinds.Failure = 3
+kind_number kinds.StatusTransfer = 4
+kind_number kinds.ContextRelease = 5
+kind_number kinds.HandoverCancel = 6
+kind_number kinds.ResetRequest = 7
+kind_number kinds.ResetResponse = 8
+kind_number kinds.Start = 9
+kind_number kinds.Cancel = 10
+kind_number kinds.Arrived = 11
+kind_number kinds.Returned = 12
+kind_number kinds.Left = 13
+kind_number kinds.Reset = 14
+kind_number kinds.Tick = 15
+kind_number kinds.Bearer = 16
+kind_number kinds.SendStatus = 17
+kind_number kinds.ReleaseUe = 20
+
+-- the number of a reply
+abbrev pub reply_number : Reply → ℕ
+reply_number Done = 0
+reply_number NoRecord = 2
+reply_number Repeated = 3
+reply_number Full = 4
+reply_number NoneAdmitted = 5
+reply_number Untaken = 6
+reply_number Unfit = 7
+reply_number Early = 8
+reply_number NoneDue = 9
+reply_number BadSetting = 16
+
+-- the number of a cancel's reason
+abbrev pub reason_number : Reason → ℕ
+reason_number Decided = 1
+reason_number TimedOut = 2
+reason_number Returned = 3

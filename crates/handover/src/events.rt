@@ -1,6 +1,7 @@
 // Which record an event is about, and what it does to it.
 ghost use Rattle.std.specs.Prelude.{◌≡◌, cond, eqb, get_or};
-ghost use Rattle.handover.specs.Events.{new_fits, keyed, key_row, action_of, resets_by, message as message_of, silence as silence_of, lists_fit, set_fits, refusal as refusal_of, decision, prepared, stored, serving, last_word, decide as decide_of};
+ghost use Rattle.handover.specs.Numbers.{kind_number, reply_number, reason_number};
+ghost use Rattle.handover.specs.Events.{new_fits, keyed, key_row, action_of, resets_by, number_of, message as message_of, silence as silence_of, lists_fit, set_fits, refusal as refusal_of, decision, prepared, stored, serving, last_word, decide as decide_of};
 
 use crate::numbers::blank;
 use crate::{Action, Decision, Entry, Reply, State};
@@ -19,6 +20,7 @@ const STATES: usize = 5;
 const ABSENT: NewId = NewId(65535);
 
 // Why a cancel is sent.
+#[derive(Clone, Copy)]
 enum Reason {
     Decided = 1,
     TimedOut = 2,
@@ -162,20 +164,20 @@ pub fn silence() -> Record
 }
 
 // A message about a record, with both its IDs.
-fn word(kind: u8, r: Entry) -> Record
-    ensures { result ≡ message_of kind r.neighbour r.old.0 r.new.0 0 0 0 }
+fn word(kind: Kind, r: Entry) -> Record
+    ensures { result ≡ message_of (kind_number kind) r.neighbour r.old.0 r.new.0 0 0 0 }
 {
-    message(kind, r.neighbour, r.old, r.new, 0, 0, 0)
+    message(kind as u8, r.neighbour, r.old, r.new, 0, 0, 0)
 }
 
 // A HANDOVER CANCEL of a record.
-fn cancel(r: Entry, new: NewId, reason: u8) -> Record
-    ensures { result ≡ message_of 6 r.neighbour r.old.0 new.0 0 0 reason }
+fn cancel(r: Entry, new: NewId, reason: Reason) -> Record
+    ensures { result ≡ message_of 6 r.neighbour r.old.0 new.0 0 0 (reason_number reason) }
 {
     Record {
         new,
-        reason,
-        ..word(Kind::HandoverCancel as u8, r)
+        reason: reason as u8,
+        ..word(Kind::HandoverCancel, r)
     }
 }
 
@@ -196,26 +198,36 @@ fn set_fits(r: Entry, e: Record) -> bool
 }
 
 // A decision that changes nothing.
-fn refusal(reply: u8, r: Entry) -> Decision
-    ensures { result ≡ refusal_of reply r }
+fn refusal(reply: Reply, r: Entry) -> Decision
+    ensures { result ≡ refusal_of (reply_number reply) r }
 {
     Decision {
-        reply,
+        reply: reply as u8,
         ending: 0,
         message: silence(),
         entry: r,
     }
 }
 
-// A decision that is done.
-fn done(ending: u8, message: Record, entry: Entry) -> Decision
-    ensures { result ≡ decision 0 ending message entry }
+// A decision that is done, and ends nothing.
+fn done(message: Record, entry: Entry) -> Decision
+    ensures { result ≡ decision 0 0 message entry }
 {
     Decision {
         reply: Reply::Done as u8,
-        ending,
+        ending: 0,
         message,
         entry,
+    }
+}
+
+// A decision that is done, and comes to an ending.
+fn ended(ending: Action, message: Record, entry: Entry) -> Decision
+    ensures { result ≡ decision 0 (number_of ending) message entry }
+{
+    Decision {
+        ending: ending as u8,
+        ..done(message, entry)
     }
 }
 
@@ -224,11 +236,11 @@ fn last_word(e: Record, r: Entry) -> Record
     ensures { result ≡ last_word e r }
 {
     match (e.kind, r.state) {
-        (CANCEL, PREPARED) => cancel(r, r.new, Reason::Decided as u8),
-        (CANCEL, _) => cancel(r, ABSENT, Reason::Decided as u8),
-        (TICK, PREPARING) => cancel(r, ABSENT, Reason::TimedOut as u8),
-        (TICK, PREPARED) => word(Kind::ReleaseUe as u8, r),
-        (RETURNED, _) => cancel(r, r.new, Reason::Returned as u8),
+        (CANCEL, PREPARED) => cancel(r, r.new, Reason::Decided),
+        (CANCEL, _) => cancel(r, ABSENT, Reason::Decided),
+        (TICK, PREPARING) => cancel(r, ABSENT, Reason::TimedOut),
+        (TICK, PREPARED) => word(Kind::ReleaseUe, r),
+        (RETURNED, _) => cancel(r, r.new, Reason::Returned),
         _ => silence(),
     }
 }
@@ -239,12 +251,12 @@ pub fn decide(e: Record, r: Entry, deadline: u64) -> Decision
 {
     let action = action_of(e.kind, r.state);
     match action {
-        Untaken => refusal(Reply::Untaken as u8, r),
+        Untaken => refusal(Reply::Untaken, r),
         Prepared => acknowledged(e, r, deadline),
         StatusStored => status_stored(e, r),
         StatusSent => status_sent(e, r),
         Arrived => arrived(r),
-        _ => done(action as u8, last_word(e, r), blank()),
+        _ => ended(action, last_word(e, r), blank()),
     }
 }
 
@@ -253,7 +265,7 @@ fn acknowledged(e: Record, r: Entry, deadline: u64) -> Decision
     ensures { result ≡ cond (lists_fit r e) (decision 0 0 silence_of (prepared r e deadline)) (refusal_of 7 r) }
 {
     if !lists_fit(r, e) {
-        return refusal(Reply::Unfit as u8, r);
+        return refusal(Reply::Unfit, r);
     }
     let next = Entry {
         state: PREPARED,
@@ -262,7 +274,7 @@ fn acknowledged(e: Record, r: Entry, deadline: u64) -> Decision
         deadline,
         ..r
     };
-    done(0, silence(), next)
+    done(silence(), next)
 }
 
 // A held record that gets a status.
@@ -270,13 +282,13 @@ fn status_stored(e: Record, r: Entry) -> Decision
     ensures { result ≡ cond (set_fits r e) (decision 0 0 silence_of (stored r e)) (refusal_of 7 r) }
 {
     if !set_fits(r, e) {
-        return refusal(Reply::Unfit as u8, r);
+        return refusal(Reply::Unfit, r);
     }
     let next = Entry {
         status: e.first,
         ..r
     };
-    done(0, silence(), next)
+    done(silence(), next)
 }
 
 // A prepared record that sends a status.
@@ -284,13 +296,13 @@ fn status_sent(e: Record, r: Entry) -> Decision
     ensures { result ≡ cond (set_fits r e) (decision 0 0 (message_of 4 r.neighbour r.old.0 r.new.0 e.first 0 0) r) (refusal_of 7 r) }
 {
     if !set_fits(r, e) {
-        return refusal(Reply::Unfit as u8, r);
+        return refusal(Reply::Unfit, r);
     }
     let status = Record {
         first: e.first,
-        ..word(Kind::StatusTransfer as u8, r)
+        ..word(Kind::StatusTransfer, r)
     };
-    done(0, status, r)
+    done(status, r)
 }
 
 // A held record whose UE arrives.
@@ -302,7 +314,7 @@ fn arrived(r: Entry) -> Decision
         deadline: 0,
         ..r
     };
-    done(Arrived as u8, word(Kind::ContextRelease as u8, r), next)
+    ended(Arrived, word(Kind::ContextRelease, r), next)
 }
 
 // What a reset sends: a response to a request, a request for a local decision.

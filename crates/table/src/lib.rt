@@ -5,7 +5,7 @@
 ghost use Rattle.std.specs.Prelude.{◌≡◌, ◌-◌, ◌/◌, ◌≤◌, ◌<◌, cond, [], length, Some};
 ghost use Rattle.bearers.specs.Admission.{judgeable, all_five};
 ghost use Rattle.bearers.specs.Flaws.{flaw_of};
-ghost use Rattle.handover.specs.Numbers.{is_free};
+ghost use Rattle.handover.specs.Numbers.{is_free, reply_number};
 ghost use Rattle.table.specs.Table.{find as find_of, Puts, reset as reset_to};
 ghost use Rattle.table.specs.Sound.{Sound};
 ghost use Rattle.table.specs.Reached.{Reached};
@@ -217,17 +217,17 @@ impl Station {
     }
 
     // A request that is refused: the failure says why.
-    fn failure(self, reply: u8, e: Record) -> Answer
-        ensures { result ≡ failure_of reply e self }
+    fn failure(self, reply: Reply, e: Record) -> Answer
+        ensures { result ≡ failure_of (reply_number reply) e self }
     {
         let failure = Record {
             kind: Kind::Failure as u8,
             neighbour: e.neighbour,
             old: e.old,
-            reason: reply,
+            reason: reply as u8,
             ..Record::zeros()
         };
-        self.answer(said(reply, 0, 0, failure))
+        self.answer(said(reply as u8, 0, 0, failure))
     }
 
     // What was admitted is held in a free place, if it is anything.
@@ -236,7 +236,7 @@ impl Station {
         ensures { result ≡ grant_at e a i self }
     {
         if a.admitted == 0 {
-            return self.failure(Reply::NoneAdmitted as u8, e);
+            return self.failure(Reply::NoneAdmitted, e);
         }
         if action_of(e.kind, State::Free as u8) != Action::Held {
             return self.answer(quiet(Reply::Untaken as u8));
@@ -282,7 +282,7 @@ impl Station {
             return self.answer(refusal(flaw));
         }
         refuse_all(bearers.len() / SIZE, verdicts);
-        self.failure(Reply::Full as u8, e)
+        self.failure(Reply::Full, e)
     }
 
     // A request that no held record repeats.
