@@ -207,10 +207,6 @@ module _ (bytes : List ℕ) (room : ℕ) (parts : List (List ℕ)) (list : is_li
   pub no_room : room < length parts → judgeable bytes room ≡ false
   no_room short = judgeable_cut ∙ rw (lt-leb (length parts) room short)
 
--- Bytes that are no list cannot be judged.
-pub no_list : (bytes : List ℕ) (room : ℕ) → is_list (length bytes) ≡ false → judgeable bytes room ≡ false
-no_list bytes room none = rw none
-
 -- Where they can be judged there is room for a verdict each.
 pub fitting : (bytes : List ℕ) (room : ℕ) → judgeable bytes room ≡ true → length bytes / 32 ≤ room
 fitting bytes room t =

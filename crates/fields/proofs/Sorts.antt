@@ -3,7 +3,7 @@ use Prim.Native.Nat.{ℕ}
 use mathlib.Core.Path.{◌≡◌, refl}
 use mathlib.Core.Bool.{Bool, true, false, not, ◌||◌}
 use borrow.Author.Tests.{eqb-true, eqb-false}
-use denote.Enum.Bare.{same_true, same_false, true_same, false_same}
+use denote.Enum.Bare.{same_true, true_same}
 use lib.Dec.{eqb}
 use Rattle.laws.proofs.Tests.{by_cases, every, every_at, refuted}
 use Rattle.records.specs.declared.Record.{Record}
@@ -17,14 +17,8 @@ module _ (a b : Sort) where
   pub sort_true : same_sort a b ≡ true → a ≡ b
   sort_true = same_true the_type tt a b
 
-  pub sort_false : same_sort a b ≡ false → a ≡ b → ⊥
-  sort_false = same_false the_type a b
-
   pub eq_sort : a ≡ b → same_sort a b ≡ true
   eq_sort = true_same the_type a b
-
-  pub ne_sort : (a ≡ b → ⊥) → same_sort a b ≡ false
-  ne_sort = false_same the_type tt a b
 
 -- A test that holds of every kind of the table and its sort, and of no event, holds of any number and its sort.
 pub every_kind : (test : ℕ → Sort → Bool) → every (λ k row. test k row.sort) kinds ≡ true → ((j : ℕ) → test j NoEvent ≡ true) → (k : ℕ) → test k (sort_of k) ≡ true

@@ -65,11 +65,6 @@ pub was_whole : (room : Bool) (there r : Record) → cond room (Some there) None
 was_whole true there r e = (refl, cc)
 was_whole false there r e = clash cc
 
--- Where nothing was read there was no room.
-pub was_short : (room : Bool) (there : Record) → cond room (Some there) None ≡ None → room ≡ false
-was_short true there e = clash cc
-was_short false there e = refl
-
 -- Where a record was read, the event is that record's.
 pub piece_whole : (bytes : List ℕ) (r : Record) → read_at bytes 0 ≡ Some r → piece_of bytes ≡ event_of r bytes
 piece_whole bytes r e = let was = was_whole (room_at bytes 0) (record_at bytes 0) r e in rw (was.0, was.1)

@@ -1,5 +1,5 @@
 -- What a write that is not refused has.
-use Rattle.std.proofs.Common.{◌≡◌, ℕ, ◌≤◌, Bool, true, false, cond, Option, Some, None, Result, Ok, Err, List, ◌++◌, length, drop, ltb, refl}
+use Rattle.std.proofs.Common.{◌≡◌, ℕ, ◌≤◌, Bool, true, false, cond, Option, Some, None, Result, Ok, Err, List, length, ltb, refl}
 use borrow.Author.Tests.{ltb-false, le-ltb}
 use Rattle.laws.proofs.Tests.{by_cases, clash}
 use Rattle.records.specs.declared.Record.{Record}
@@ -8,7 +8,7 @@ use Rattle.fields.specs.Fields.{fault_of}
 use Rattle.wire.specs.declared.Refusal.{Refusal}
 use Rattle.wire.specs.Parts.{octets_of}
 use Rattle.reading.proofs.RoundTrip.{passed_on}
-use Rattle.writing.specs.Writing.{is_carried, has_cause, plainly, faultless, judged, put_answer, put_left, written_of, left_in}
+use Rattle.writing.specs.Writing.{is_carried, has_cause, plainly, faultless, judged, put_answer, written_of}
 
 no_fault : (carried : Bool) (fault : Option Fault) → cond carried (faultless fault) (Err (plainly 18)) ≡ Ok tt → (carried ≡ true) × (fault ≡ None)
 no_fault true None e = (refl, refl)
@@ -59,7 +59,3 @@ module _ (r : Record) (carried : is_carried r ≡ true) (well : fault_of r ≡ N
   pub is_written_lem : (room : ℕ) → length (octets_of r) ≤ room → written_of r room ≡ Ok (length (octets_of r))
   unfolding put_answer
   is_written_lem room fits = rw (in_order, caused, le-ltb room (length (octets_of r)) fits)
-
-  pub is_left : (buffer : List ℕ) → length (octets_of r) ≤ length buffer → left_in r buffer ≡ octets_of r ++ drop (length (octets_of r)) buffer
-  unfolding put_left
-  is_left buffer fits = rw (in_order, caused, le-ltb (length buffer) (length (octets_of r)) fits)
