@@ -29,47 +29,41 @@ fn complain(rt: &HostRuntime, line: Line) {
 }
 
 // Writes the records of a line that has ended, or tells why there are none.
-fn write_line(rt: &HostRuntime, line: Line, output: &[u8]) -> io::Result<()> {
+fn write_line(rt: &HostRuntime, line: &Line, output: &[u8]) -> io::Result<()> {
     match output.get(..line.draft.staged) {
         Some(records) if line.draft.mode < Mode::Wrong as u8 => rt.write_all(records),
         _ => {
-            complain(rt, line);
+            complain(rt, *line);
             Ok(())
         }
     }
 }
 
 // Where a line has ended its records are written, and the next begins.
-fn next_line(rt: &HostRuntime, line: Line, output: &[u8]) -> io::Result<Line>
-    ensures { IfOk result (λ next. next.draft.ended ≡ false) }
+fn next_line(rt: &HostRuntime, line: &mut Line, output: &[u8]) -> io::Result<()>
+    ensures { IfOk result (λ u. line.new.draft.ended ≡ false) }
 {
-    if !line.draft.ended {
-        return Ok(line);
+    if line.draft.ended {
+        write_line(rt, line, output)?;
+        line.draft = Draft::new();
+        line.number = line.number.wrapping_add(1);
     }
-    write_line(rt, line, output)?;
-    Ok(Line {
-        draft: Draft::new(),
-        number: line.number.wrapping_add(1),
-    })
+    Ok(())
 }
 
 // Reads the bytes of a block, one line after the other.
-fn take_all(rt: &HostRuntime, line: Line, bytes: &[u8], output: &mut [u8]) -> io::Result<Line>
-    requires { line.draft.ended ≡ false }
-    ensures { IfOk result (λ next. next.draft.ended ≡ false) }
+fn take_all(rt: &HostRuntime, line: &mut Line, bytes: &[u8], output: &mut [u8]) -> io::Result<()>
+    requires { line.old.draft.ended ≡ false }
+    ensures { IfOk result (λ u. line.new.draft.ended ≡ false) }
 {
-    let mut now = line;
     let mut rest = bytes;
     while !rest.is_empty() {
-        let progress = now.draft.read(rest, output);
-        let read = Line {
-            draft: progress.draft,
-            ..now
-        };
-        now = next_line(rt, read, output)?;
+        let progress = line.draft.read(rest, output);
+        line.draft = progress.draft;
+        next_line(rt, line, output)?;
         rest = &rest[progress.taken..];
     }
-    Ok(now)
+    Ok(())
 }
 
 // Reads once, and takes what is there. At the end of the input the last line ends too, and none follows.
@@ -89,12 +83,13 @@ fn turn(
             0
         }
     };
+    let mut now = line;
     if count == 0 {
-        take_all(rt, line, b"\n", output)?;
+        take_all(rt, &mut now, b"\n", output)?;
         return Ok(None);
     }
-    let next = take_all(rt, line, &input[..count], output)?;
-    Ok(Some(next))
+    take_all(rt, &mut now, &input[..count], output)?;
+    Ok(Some(now))
 }
 
 fn main(rt: HostRuntime) {

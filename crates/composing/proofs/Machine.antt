@@ -62,6 +62,11 @@ module _ (m : Made) where
   unfolding step
   step_typed byte last h i j t e = rw (ne_eqb byte 10 h, le-leb m.draft.mode 2 i, ne_eqb byte 35 j, t) e
 
+  -- a byte of a line of which no more words are read
+  pub step_over : (byte : ℕ) → (byte ≡ 10 → ⊥) → 2 < m.draft.mode → m ≡ step m byte
+  unfolding step
+  step_over byte h i = rw (ne_eqb byte 10 h, lt-leb m.draft.mode 2 i) refl
+
 -- A byte of two hexadecimal digits, where a record has room for it.
 pub hex_on : (m : Made) (byte : ℕ) (e : Draft) → Some byte ≡ hex_value m.draft.word → m.draft.staged ≤ 31 → m.draft.staged < length m.out → e ≡ appended m.draft → made e (set m.out m.draft.staged byte) ≡ hex m
 unfolding hex

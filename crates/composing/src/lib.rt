@@ -184,6 +184,10 @@ impl Draft {
             if draft.ended {
                 return Progress { draft, taken };
             }
+            // `step` would hand back the same draft, and is no place to copy it for each byte of a comment.
+            if draft.is_over() && *byte != b'\n' {
+                continue;
+            }
             draft = draft.step(*byte, out);
         }
         Progress {
@@ -216,7 +220,8 @@ impl Draft {
         self.mode > Mode::Raw as u8
     }
 
-    // The words of a line have ended.
+    // The words of a line have ended. It is compiled into `step`, so that the draft of an empty line is not copied on its way.
+    #[inline(always)]
     #[tactic(auto, unfolding(crate::specs::Composed::close))]
     fn close(self, out: &mut [u8]) -> Draft
         ensures { made result out.new ≡ close (made self out.old) }

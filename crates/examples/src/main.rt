@@ -22,7 +22,9 @@ fn arg_count(rt: &HostRuntime) -> usize {
 }
 
 // Puts an argument at the start of the buffer, and answers its bytes: none if it is missing or longer than the buffer.
-fn arg<'a>(rt: &HostRuntime, place: usize, buffer: &'a mut [u8]) -> &'a [u8] {
+fn arg<'a>(rt: &HostRuntime, place: usize, buffer: &'a mut [u8]) -> &'a [u8]
+    ensures { length result.now ≤ length buffer.old }
+{
     let size = rt.arg(place, buffer).unwrap_or(0);
     &buffer[..size]
 }
@@ -44,7 +46,9 @@ fn fail(rt: &HostRuntime, path: &[u8], why: io::Error) {
 }
 
 // Reads a file, as far as the buffer holds it, and answers its bytes.
-fn read_file<'a>(rt: &HostRuntime, path: &[u8], buffer: &'a mut [u8]) -> &'a [u8] {
+fn read_file<'a>(rt: &HostRuntime, path: &[u8], buffer: &'a mut [u8]) -> &'a [u8]
+    ensures { length result.now ≤ length buffer.old }
+{
     let held = match open(rt, path) {
         Ok(mut file) => read_full(&mut file, buffer),
         Err(why) => {

@@ -258,8 +258,8 @@ static KINDS: [Row; 18] = [
 ];
 
 // The row of a kind; a number that is no kind has that of none.
-pub fn row_of(kind: u8) -> Row
-    ensures { result ≡ row_of kind }
+pub fn row_of(kind: u8) -> &'static Row
+    ensures { result.now ≡ row_of kind }
 {
-    KINDS.get(kind as usize).copied().unwrap_or(NO_KIND)
+    KINDS.get(kind as usize).unwrap_or(&NO_KIND)
 }

@@ -62,8 +62,8 @@ fn values_of(e: Record) -> [u64; FIELDS]
 // Whether all fields fit the limits of a row. It is compiled into its callers, so that against a row that is known, a bearer's, there are
 // plain tests.
 #[inline(always)]
-fn all_fit(row: Row, e: Record) -> bool
-    ensures { result ≡ all_fit (limits_in row) (values_of e) }
+fn all_fit(row: &Row, e: Record) -> bool
+    ensures { result ≡ all_fit (limits_in row.now) (values_of e) }
 {
     row.neighbour.fits(u64::from(e.neighbour))
         & row.old.fits(u64::from(e.old.0))
@@ -82,8 +82,8 @@ fn all_fit(row: Row, e: Record) -> bool
 }
 
 // The lowest field that offends, of those that the row's kind uses or of those that it does not.
-fn lowest(row: Row, e: Record, used: bool) -> Option<usize>
-    ensures { result ≡ lowest (offends used) (limits_in row) (values_of e) }
+fn lowest(row: &Row, e: Record, used: bool) -> Option<usize>
+    ensures { result ≡ lowest (offends used) (limits_in row.now) (values_of e) }
 {
     let limits = row.limits();
     let values = values_of(e);
@@ -94,8 +94,8 @@ fn lowest(row: Row, e: Record, used: bool) -> Option<usize>
 }
 
 // What is wrong with the fields of a record: the lowest that is out of range, else the lowest that is not used and not zero.
-fn fault_in(row: Row, e: Record) -> Option<Fault>
-    ensures { result ≡ fault_in (limits_in row) (values_of e) }
+fn fault_in(row: &Row, e: Record) -> Option<Fault>
+    ensures { result ≡ fault_in (limits_in row.now) (values_of e) }
 {
     if let Some(field) = lowest(row, e, true) {
         return Some(Fault {
@@ -128,14 +128,14 @@ pub fn fault_of(e: Record) -> Option<Fault>
 pub fn bearer_fault(r: Record) -> Option<Fault>
     ensures { result ≡ fault_of_bearer r }
 {
-    fault_in(BEARER, r)
+    fault_in(&BEARER, r)
 }
 
 // Whether a record is a bearer's, with nothing wrong in it.
 pub fn is_bearer(r: Record) -> bool
     ensures { result ≡ is_bearer r }
 {
-    r.kind == Kind::Bearer as u8 && all_fit(BEARER, r)
+    r.kind == Kind::Bearer as u8 && all_fit(&BEARER, r)
 }
 
 // Whether a request's count is 1 to 256.

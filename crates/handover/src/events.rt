@@ -94,10 +94,11 @@ pub fn key_of(kind: u8) -> [u8; 5]
 pub fn action_of(kind: u8, state: u8) -> Action
     ensures { result ≡ action_of kind state }
 {
+    let actions = &ACTIONS; // by value, the table would be built anew on the stack
     let row = kind as usize;
     let column = state as usize;
     if row < KINDS && column < STATES {
-        ACTIONS[row][column]
+        actions[row][column]
     } else {
         Untaken
     }

@@ -40,7 +40,7 @@ fn shape_of(message: &[u8]) -> Shape
 // What a message says of itself: which it is, where its list of IEs ends by its count, where its value ends by its length, and whether its count
 // is that of all its IEs.
 #[derive(Clone, Copy)]
-struct Layout {
+pub struct Layout {
     pub shape: Shape,
     pub list: usize,
     pub value: usize,

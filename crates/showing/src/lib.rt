@@ -199,7 +199,7 @@ impl Page<'_> {
     {
         if !rest.is_empty() {
             self.raw(rest);
-            self.end(true);
+            self.byte(b'\n'); // it has a line of its own
         }
     }
 }
