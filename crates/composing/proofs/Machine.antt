@@ -5,15 +5,19 @@ use mathlib.Core.Bool.{Bool, true, false, ◌&&◌, false≢true}
 use mathlib.Core.List.{List}
 use native.Mathlib.Numerals.{add-one}
 use native.Mathlib.Omega.{arith}
-use borrow.Author.Tests.{leb-true, le-leb, lt-leb, eq-eqb, ne_eqb}
-use lib.Dec.{leb, eqb}
+use borrow.Author.Tests.{leb-true, le-leb, lt-leb, ltb-true, ltb-false, eq-eqb, eqb-true, ne_eqb}
+use lib.Dec.{leb, ltb, eqb}
 use lib.ListN.{length, get_or, drop, drop_of_length-le, set}
 use lib.Seq.{drop-cons}
 use Rattle.std.specs.Prelude.{Some}
-use Rattle.laws.proofs.Tests.{both_true, on_true, on_false}
+use Rattle.laws.proofs.Tests.{by_cases, both_true, on_true, on_false}
 use Rattle.composing.specs.declared.Draft.{Draft}
-use Rattle.composing.specs.Composed.{hex_value, appended, may_begin, Made, made, on_draft, begun, chosen, put, pushed, with_word, is_pair, is_gap, lacks_count, counted, stage, hex, understood, looked_up, settle, close, finished, typed, step, read_from, taken_from}
+use Rattle.composing.specs.Composed.{hex_value, appended, may_begin, Made, made, on_draft, begun, chosen, put, pushed, with_word, is_pair, is_gap, lacks_count, counted, stage, hex, understood, looked_up, settle, close, finished, typed, passes, step, read_from, taken_from}
 use Rattle.words.specs.Words.{last_kind, last_field, place_of}
+
+-- no space is the beginning of a comment
+no_hash : (byte : ℕ) → is_gap byte ≡ true → eqb byte 35 ≡ false
+no_hash byte g = by_cases (eqb byte 35) (λ t. absurd (false≢true (rw (eqb-true byte 35 t) at g))) (λ t. t)
 
 -- a word of the table
 module _ (m : Made) (k : ℕ) where
@@ -62,10 +66,17 @@ module _ (m : Made) where
   unfolding step
   step_typed byte last h i j t e = rw (ne_eqb byte 10 h, le-leb m.draft.mode 2 i, ne_eqb byte 35 j, t) e
 
-  -- a byte of a line of which no more words are read
-  pub step_over : (byte : ℕ) → (byte ≡ 10 → ⊥) → 2 < m.draft.mode → m ≡ step m byte
-  unfolding step
-  step_over byte h i = rw (ne_eqb byte 10 h, lt-leb m.draft.mode 2 i) refl
+  -- a byte that changes nothing
+  pub step_passed : (byte : ℕ) → passes m.draft byte ≡ true → m ≡ step m byte
+  unfolding step settle
+  step_passed byte p =
+      by_cases (eqb byte 10)
+      (λ t. absurd (false≢true (rw t at p)))
+      (λ t. by_cases (ltb 2 m.draft.mode)
+      (λ o. rw (t, lt-leb m.draft.mode 2 (ltb-true 2 m.draft.mode o)) refl)
+      (λ o.
+      let parts = both_true (is_gap byte) (eqb m.draft.word.size 0) (rw (t, o) at p) in
+      rw (t, le-leb m.draft.mode 2 (ltb-false 2 m.draft.mode o), no_hash byte parts.0, parts.0, parts.1) refl))
 
 -- A byte of two hexadecimal digits, where a record has room for it.
 pub hex_on : (m : Made) (byte : ℕ) (e : Draft) → Some byte ≡ hex_value m.draft.word → m.draft.staged ≤ 31 → m.draft.staged < length m.out → e ≡ appended m.draft → made e (set m.out m.draft.staged byte) ≡ hex m

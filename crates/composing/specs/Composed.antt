@@ -247,6 +247,10 @@ typed m b =
     let next = on_draft (λ d. with_word d (pushed d.word b)) m in
     cond (is_pair next.draft) (hex next) next
 
+-- a byte that changes nothing: of a line of which no more words are read, or a space where no word has begun
+abbrev pub passes : Draft → ℕ → Bool
+passes d b = cond (eqb b 10) false (cond (ltb 2 d.mode) true (is_gap b && eqb d.word.size 0))
+
 -- one byte of the text: a line feed ends the line, "# starts a comment", spaces end a word
 unfoldable pub step : Made → ℕ → Made
 step m b =

@@ -3,7 +3,7 @@
 
 ghost use Rattle.std.specs.Prelude.{◌≡◌, ◌≤◌, ◌<◌, false, length, ltb, Some, None, if◌then◌else◌, IfSome};
 ghost use Rattle.words.specs.Words.{last_kind, last_field};
-ghost use Rattle.composing.specs.Composed.{takes_digit, grown, pushed, added, in_mode, wrong, put, begun, chosen, nibble, hex_value, takes_bearer, may_begin, made, stage, hex, understood, settle, lacks_count, counted, close, commented, typed, step, new_draft, read_from, taken_from};
+ghost use Rattle.composing.specs.Composed.{takes_digit, grown, pushed, added, in_mode, wrong, put, begun, chosen, nibble, hex_value, takes_bearer, may_begin, made, stage, hex, understood, settle, lacks_count, counted, close, commented, typed, passes, step, new_draft, read_from, taken_from};
 
 use records::Kind;
 use sets::add;
@@ -184,8 +184,8 @@ impl Draft {
             if draft.ended {
                 return Progress { draft, taken };
             }
-            // `step` would hand back the same draft, and is no place to copy it for each byte of a comment.
-            if draft.is_over() && *byte != b'\n' {
+            // `step` would hand back the same draft: nothing is copied for each byte of a comment.
+            if draft.passes(*byte) {
                 continue;
             }
             draft = draft.step(*byte, out);
@@ -218,6 +218,18 @@ impl Draft {
         ensures { result ≡ ltb 2 self.mode }
     {
         self.mode > Mode::Raw as u8
+    }
+
+    // Whether a byte changes nothing: it is passed over, or stands between words where none has begun.
+    fn passes(self, byte: u8) -> bool
+        ensures { result ≡ passes self byte }
+    {
+        match byte {
+            b'\n' => false,
+            _ if self.is_over() => true,
+            b' ' | b'\t' | b'\r' => self.word.size == 0,
+            _ => false,
+        }
     }
 
     // The words of a line have ended. It is compiled into `step`, so that the draft of an empty line is not copied on its way.

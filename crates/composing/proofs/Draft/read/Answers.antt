@@ -1,9 +1,8 @@
 use mathlib.Core.Path.{◌≡◌, sym, ◌∙◌}
 use native.Mathlib.Omega.{arith}
-use borrow.Author.Tests.{ltb-true}
 use lib.ListN.{length, get_or}
 use Rattle.composing.specs.Composed.{made}
-use Rattle.composing.proofs.Machine.{step_over, read_on, read_over, read_out}
+use Rattle.composing.proofs.Machine.{step_passed, read_on, read_over, read_out}
 use Rattle.composing.proofs.Taken.{taken_some}
 use Rattle.composing.proofs.Draft.read.Goals as goal
 
@@ -13,11 +12,11 @@ loop-taken-preserved c =
     let on = read_on c.args.bytes.now now.taken (made now.draft now.out) _ c.loop-taken-test.true c.if-draft.false c.step-draft.ensures in
     (c.step-draft.auto.out ∙ now.invariant.0, on.0 ∙ now.invariant.1, on.1 ∙ now.invariant.2)
 
-pub loop-taken-preserved-then-byte-ne10 : goal.loop-taken-preserved-then-byte-ne10
-loop-taken-preserved-then-byte-ne10 c =
+pub loop-taken-preserved-then-passes : goal.loop-taken-preserved-then-passes
+loop-taken-preserved-then-passes c =
     let now = c.loop-taken in
     let m = made now.draft now.out in
-    let same = step_over m (get_or c.args.bytes.now now.taken 0) c.if-byte-ne10.true (ltb-true 2 now.draft.mode (sym c.is_over.ensures ∙ c.if-is_over.true)) in
+    let same = step_passed m (get_or c.args.bytes.now now.taken 0) (sym c.passes.ensures ∙ c.if-passes.true) in
     let on = read_on c.args.bytes.now now.taken m m c.loop-taken-test.true c.if-draft.false same in
     (now.invariant.0, on.0 ∙ now.invariant.1, on.1 ∙ now.invariant.2)
 
